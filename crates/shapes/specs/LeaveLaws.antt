@@ -47,9 +47,9 @@ module _ (G : Ctx) (counts : List ℕ) (counted : (k : ℕ) → getD counts k 0 
       let long : length c ≡ length c₀ - n = length-drop n c₀ in
       let e = rise-words G counts counted list (map erase c) (from + n)
       (λ j b.
-          let l : j < length c = rw (length-map c erase) at b in
-          let z : from + n + j ≡ from + (n + j) = omega arith in
-          ap (λ (x : ℕ). getD list x 0) z ∙ listed (n + j) (omega arith) ∙ ap note-word (sym (getD-drop n c₀ j n-this)) ∙ sym (word-in c j l)) in
+      let l : j < length c = rw (length-map c erase) at b in
+      let z : from + n + j ≡ from + (n + j) = omega arith in
+      ap (λ (x : ℕ). getD list x 0) z ∙ listed (n + j) (omega arith) ∙ ap note-word (sym (getD-drop n c₀ j n-this)) ∙ sym (word-in c j l)) in
       ap (rise-at counts list (from + n)) (sym long ∙ sym (length-map c erase)) ∙ e ∙ rise-erased G c
 
 -- what a command leaves out

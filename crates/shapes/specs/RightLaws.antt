@@ -42,7 +42,7 @@ structs-found heads n s at m {r} f =
     let long = length-take-le (r .found .count) (r .found .structs) (omega arith) in
     let size = structs-long heads n s at m in
     ext-getD 0 _ _ (omega arith) (λ j b.
-        getD-take (r .found .count) (r .found .structs) j 0 (omega arith) ∙ f .structs j (omega arith) ∙ sym (structs-at heads n s at m j (omega arith)))
+    getD-take (r .found .count) (r .found .structs) j 0 (omega arith) ∙ f .structs j (omega arith) ∙ sym (structs-at heads n s at m j (omega arith)))
 
 -- after a push this
 module _ (list : List ℕ) (from : ℕ) where

@@ -102,10 +102,10 @@ module _ (G : Ctx) (c₀ : List Note) (list counts types : List ℕ) (p : Place)
       let M = may-leave G c₀ (map (struct-in hs) (drop l ws)) n in
       let leaves : leb l (h .height) ≡ true → B ≡ true → C ≡ M =
       λ e f.
-          let below = leb-true l (h .height) e in
-          leave-listed G counts (T .counted) ks c₀ list (p .from) (p .to) (step .listed) end n here
-          ∙ ap (λ (us : List ℕ). may-leave G c₀ us n) (structs-words hs heads (h .instances) known s small (h .at + word-bytes * l) (h .height - l) f
-          ∙ ap (map (struct-in hs)) (sym (words-drop s (h .at) l (h .height) below))) in
+      let below = leb-true l (h .height) e in
+      leave-listed G counts (T .counted) ks c₀ list (p .from) (p .to) (step .listed) end n here
+      ∙ ap (λ (us : List ℕ). may-leave G c₀ us n) (structs-words hs heads (h .instances) known s small (h .at + word-bytes * l) (h .height - l) f
+      ∙ ap (map (struct-in hs)) (sym (words-drop s (h .at) l (h .height) below))) in
       let own : own-word list counts types heads s p h ≡ own-right (after-this c₀ n) (h .label) ws =
       own-words (after-this-word list (p .from) n) s (h .at) (h .height) (h .label)
       ∙ ap (λ (t : Bool). own-right t (h .label) ws) (this-listed c₀ list (p .from) n (step .listed) here) in

@@ -68,7 +68,7 @@ module _ (G : Ctx) (counts types : List ℕ) (own : ℕ) (T : Tables G counts ty
         tags = _;
         way = on w;
         stack = rw e (ap (λ s. word-after counts types (y .locals) own (note-word m) s) (b .stack)
-        ∙ after-word G counts types own T (y .locals) (x .written) (b .locals) (x .fresh) m (x .stack) a r);
+            ∙ after-word G counts types own T (y .locals) (x .written) (b .locals) (x .fresh) m (x .stack) a r);
         wide = rw e (locals-long _ _ _ (y .locals) ∙ b .wide);
         locals = rw (e, b .stack) (locals-word G counts types own T (y .locals) (x .written) m (x .stack) (x .fresh) a r (b .wide) (b .locals));
       }

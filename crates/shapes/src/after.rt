@@ -82,10 +82,8 @@ fn put(types: &[u8], locals: [u8; LOCALS], own: u8, w: u64, s: Stack) -> u8
 // The types on the stack after a command.
 pub fn after(counts: &[u8], types: &[u8], locals: [u8; LOCALS], own: u8, w: u64, s: Stack) -> Stack
     requires { ⌜ (length locals ≡ max-locals) × (Formed s) × (s .height < step-commands) ⌝ }
-    ensures {
-        λ r.
-            ⌜ (types-in r ≡ word-after (now (counts .entry)) (now (types .entry)) locals own w (types-in s)) × (Formed r) × (r .height ≤ s .height + 1) ⌝
-    }
+    ensures { λ r.
+        ⌜ (types-in r ≡ word-after (now (counts .entry)) (now (types .entry)) locals own w (types-in s)) × (Formed r) × (r .height ≤ s .height + 1) ⌝ }
 {
     let rest = s.drop(takes(counts, w));
     if puts(w) == 0 {

@@ -2,9 +2,9 @@
 use crate::heights::rises;
 use crate::labels::may_leave;
 use crate::walk::types_before;
+use crate::words::WORD;
 use crate::words::beneath;
 use crate::words::hold;
-use crate::words::WORD;
 use commands::kind;
 use little_endian::word_at;
 ghost use mathlib.Core.Path.{_≡_};
@@ -56,11 +56,17 @@ fn own_right(list: &[u64], s: &[u8], place: Place, held: Stacked) -> bool
 
 // Whether a stack is one that some way to the place leaves: the types that the place needs, above labels of the structs that construct statements on that
 // way make; directly after a push this the own label is on top.
-pub fn stack_right(list: &[u64], counts: &[u8], types: &[u8], heads: &[u16], s: &[u8], place: Place, held: Stacked) -> bool
+pub fn stack_right(
+    list: &[u64],
+    counts: &[u8],
+    types: &[u8],
+    heads: &[u16],
+    s: &[u8],
+    place: Place,
+    held: Stacked,
+) -> bool
     requires { ⌜ (PlaceIn (now list) place) × (StackIn (now heads) (now s) held) ⌝ }
-    ensures {
-        λ r. ⌜ r ≡ stack-words (now (list .entry)) (now (counts .entry)) (now (types .entry)) (now (heads .entry)) (now (s .entry)) place held ⌝
-    }
+    ensures { λ r. ⌜ r ≡ stack-words (now (list .entry)) (now (counts .entry)) (now (types .entry)) (now (heads .entry)) (now (s .entry)) place held ⌝ }
 {
     let n = place.at;
     let rs = rises(list, counts, place.from, place.to);
@@ -72,7 +78,13 @@ pub fn stack_right(list: &[u64], counts: &[u8], types: &[u8], heads: &[u16], s: 
     if !hold(heads, held.instances, walk.stack, s, held.at, needed) {
         return false;
     }
-    let labels = beneath(heads, held.instances, s, held.at + WORD * needed, held.height - needed);
+    let labels = beneath(
+        heads,
+        held.instances,
+        s,
+        held.at + WORD * needed,
+        held.height - needed,
+    );
     if !labels.right {
         return false;
     }

@@ -1,6 +1,6 @@
 // Which labels construct statements may have left on some way to a place (02, 'Pausing a run'): for each place, how many of the labels found.
-use crate::heights::rises;
 use crate::heights::PLACES;
+use crate::heights::rises;
 use commands::kind;
 use little_endian::index;
 ghost use mathlib.Core.Path.{_≡_};
@@ -83,7 +83,14 @@ fn jump(w: u64, left: usize) -> usize
 }
 
 // Whether some way to command n of a step, whose commands stand at the places `from` to `to` of the list, leaves labels of the structs found.
-pub fn may_leave(list: &[u64], counts: &[u8], from: usize, to: usize, n: usize, found: Found) -> bool
+pub fn may_leave(
+    list: &[u64],
+    counts: &[u8],
+    from: usize,
+    to: usize,
+    n: usize,
+    found: Found,
+) -> bool
     requires { ⌜ (from ≤ to) × (to ≤ length (now list)) × (to - from ≤ step-commands) × (n ≤ to - from) × (FoundFits found) ⌝ }
     ensures { λ r. ⌜ r ≡ words-leave (now (counts .entry)) (now (list .entry)) from to (structs-of found) n ⌝ }
 {
@@ -93,7 +100,14 @@ pub fn may_leave(list: &[u64], counts: &[u8], from: usize, to: usize, n: usize, 
     let mut i = 0;
     while i < n {
         let w = list[from + i];
-        hand_on(&mut sets, found, i, jump(w, n - i - 1), makes(w, rs[i + 1]), (w / types::NAT_END) as usize);
+        hand_on(
+            &mut sets,
+            found,
+            i,
+            jump(w, n - i - 1),
+            makes(w, rs[i + 1]),
+            (w / types::NAT_END) as usize,
+        );
         i += 1;
     }
     sets[NUMBERS * n + found.count]

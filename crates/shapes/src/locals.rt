@@ -2,8 +2,8 @@
 use crate::after::LOCALS;
 use crate::judge::Place;
 use crate::judge::Stacked;
-use crate::stack::empty;
 use crate::stack::Stack;
+use crate::stack::empty;
 use crate::walk::types_before;
 use crate::words::hold;
 use living::living;
@@ -39,11 +39,17 @@ fn kept_types(marks: [u8; LOCALS], locals: [u8; LOCALS]) -> Stack
 }
 
 // Whether there is a word for each living local, of its type. `held` has where the words begin and how many they are.
-pub fn locals_right(list: &[u64], counts: &[u8], types: &[u8], heads: &[u16], s: &[u8], place: Place, held: Stacked) -> bool
+pub fn locals_right(
+    list: &[u64],
+    counts: &[u8],
+    types: &[u8],
+    heads: &[u16],
+    s: &[u8],
+    place: Place,
+    held: Stacked,
+) -> bool
     requires { ⌜ (PlaceIn (now list) place) × (StackIn (now heads) (now s) held) ⌝ }
-    ensures {
-        λ r. ⌜ r ≡ locals-words (now (list .entry)) (now (counts .entry)) (now (types .entry)) (now (heads .entry)) (now (s .entry)) place held ⌝
-    }
+    ensures { λ r. ⌜ r ≡ locals-words (now (list .entry)) (now (counts .entry)) (now (types .entry)) (now (heads .entry)) (now (s .entry)) place held ⌝ }
 {
     let marks = living(list, place.from, place.at);
     let walk = types_before(list, counts, types, place.own, place.from, place.at);

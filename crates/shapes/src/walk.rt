@@ -1,9 +1,9 @@
 // The types on the stack and those of the written locals before a command of a step (02, 'Pausing a run').
+use crate::after::LOCALS;
 use crate::after::after;
 use crate::after::wrote;
-use crate::after::LOCALS;
-use crate::stack::empty;
 use crate::stack::Stack;
+use crate::stack::empty;
 ghost use mathlib.Core.Path.{_≡_};
 ghost use Prim.Native.Nat.{ℕ, _+_, _≤_, _<_};
 ghost use lib.ListN.{length};
@@ -33,7 +33,14 @@ impl Walk {
 }
 
 // Before command n of the step of the struct `own` whose commands begin at the place `from` of the list: one walk from the step's start, into every body.
-pub fn types_before(list: &[u64], counts: &[u8], types: &[u8], own: u8, from: usize, n: usize) -> Walk
+pub fn types_before(
+    list: &[u64],
+    counts: &[u8],
+    types: &[u8],
+    own: u8,
+    from: usize,
+    n: usize,
+) -> Walk
     requires { ⌜ (from + n ≤ length (now list)) × (n ≤ step-commands) ⌝ }
     ensures { λ r. ⌜ Walks (bytes-at (now (counts .entry)) (now (types .entry)) own (now (list .entry)) from n) n r ⌝ }
 {

@@ -56,7 +56,10 @@ pub fn hold(heads: &[u16], n: usize, types: Stack, s: &[u8], at: usize, m: usize
     let mut right = true;
     let mut j = 0;
     while j < m {
-        right = both(right, holds(heads, n, types.at(j), word_at(s, at + WORD * j)));
+        right = both(
+            right,
+            holds(heads, n, types.at(j), word_at(s, at + WORD * j)),
+        );
         j += 1;
     }
     right
@@ -90,9 +93,6 @@ pub fn beneath(heads: &[u16], n: usize, s: &[u8], at: usize, m: usize) -> Labels
     }
     Labels {
         right,
-        found: Found {
-            count: m,
-            structs,
-        },
+        found: Found { count: m, structs },
     }
 }

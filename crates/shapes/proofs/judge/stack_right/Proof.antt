@@ -25,8 +25,11 @@ array-read-needed c = let p = c .before .before .before .before .before .before 
 
 returns : tie.Need-returns
 returns c =
-    let a = c .before .before .before .before .before .before .before .before .args in
-    let e = needed-at (a .counts .now) (c .before .before .rises .result) (c .before .before .before .before .before .before .before .before .pre .0) (c .before .before .rises .ensures) in
+    let the-args = c .before .before .before .before .before .before .before .before .args in
+    let the-rises = c .before .before .rises in
+    let the-pre = c .before .before .before .before .before .before .before .before .pre in
+    let a = the-args in
+    let e = needed-at (a .counts .now) (the-rises .result) (the-pre .0) (the-rises .ensures) in
     sym (stack-low _ _ _ _ _ (a .place) (a .held) _ (c .if1 .taken)) ∙ ap (stack-by (a .list .now) (a .counts .now) (a .types .now) (a .heads .now) (a .s .now) (a .place) (a .held)) e
 
 types-before-requires : tie.Need-types-before-requires
@@ -37,56 +40,101 @@ hold-requires c κs = let h = c .before .before .before .before .before .before 
 
 returns-2 : tie.Need-returns-2
 returns-2 c =
-    let a = c .before .before .before .before .before .before .before .before .before .before .before .args in
-    let e = needed-at (a .counts .now) (c .before .before .before .before .before .rises .result) (c .before .before .before .before .before .before .before .before .before .before .before .pre .0) (c .before .before .before .before .before .rises .ensures) in
-    let k = getD (c .before .before .before .before .before .rises .result) (a .place .at) 0 in
-    let b = ap (λ (ts : List ℕ). all-hold (a .heads .now) (a .held .instances) ts (a .s .now) (a .held .at) k) (sym (c .before .before .types-before .ensures .stack)) ∙ sym (c .before .hold .ensures) ∙ not-true _ (c .if2 .taken) in
-    sym (stack-holds (a .list .now) (a .counts .now) (a .types .now) (a .heads .now) (a .s .now) (a .place) (a .held) k (c .before .before .before .if1 .left) b) ∙ ap (stack-by (a .list .now) (a .counts .now) (a .types .now) (a .heads .now) (a .s .now) (a .place) (a .held)) e
+    let the-args = c .before .before .before .before .before .before .before .before .before .before .before .args in
+    let the-rises = c .before .before .before .before .before .rises in
+    let the-pre = c .before .before .before .before .before .before .before .before .before .before .before .pre in
+    let the-types-before = c .before .before .types-before in
+    let the-if1 = c .before .before .before .if1 in
+    let a = the-args in
+    let e = needed-at (a .counts .now) (the-rises .result) (the-pre .0) (the-rises .ensures) in
+    let k = getD (the-rises .result) (a .place .at) 0 in
+    let b = ap (λ (ts : List ℕ). all-hold (a .heads .now) (a .held .instances) ts (a .s .now) (a .held .at) k) (sym (the-types-before .ensures .stack)) ∙ sym (c .before .hold .ensures) ∙ not-true _ (c .if2 .taken) in
+    sym (stack-holds (a .list .now) (a .counts .now) (a .types .now) (a .heads .now) (a .s .now) (a .place) (a .held) k (the-if1 .left) b) ∙ ap (stack-by (a .list .now) (a .counts .now) (a .types .now) (a .heads .now) (a .s .now) (a .place) (a .held)) e
 
 add-beneath : tie.Need-add-beneath
-add-beneath c = let h = c .before .before .before .before .before .before .before .before .before .before .before .before .pre .1 in let t = c .before .before .before .before .if1 .left in omega (arith, h .within, c .before .before .before .before .before .before .before .before .before .before .before .before .good)
+add-beneath c =
+    let the-pre = c .before .before .before .before .before .before .before .before .before .before .before .before .pre in
+    let the-if1 = c .before .before .before .before .if1 in
+    let the-start = c .before .before .before .before .before .before .before .before .before .before .before .before in
+    let h = the-pre .1 in let t = the-if1 .left in omega (arith, h .within, the-start .good)
 
 beneath-requires : tie.Need-beneath-requires
-beneath-requires c κs = let h = c .before .before .before .before .before .before .before .before .before .before .before .before .before .pre .1 in let t = c .before .before .before .before .before .if1 .left in (h .known, omega (arith, h .within), omega (arith, h .low), h .few)
+beneath-requires c κs =
+    let the-pre = c .before .before .before .before .before .before .before .before .before .before .before .before .before .pre in
+    let the-if1 = c .before .before .before .before .before .if1 in
+    let h = the-pre .1 in let t = the-if1 .left in (h .known, omega (arith, h .within), omega (arith, h .low), h .few)
 
 returns-3 : tie.Need-returns-3
 returns-3 c =
-    let a = c .before .before .before .before .before .before .before .before .before .before .before .before .before .before .before .before .args in
-    let e = needed-at (a .counts .now) (c .before .before .before .before .before .before .before .before .before .before .rises .result) (c .before .before .before .before .before .before .before .before .before .before .before .before .before .before .before .before .pre .0) (c .before .before .before .before .before .before .before .before .before .before .rises .ensures) in
-    let k = getD (c .before .before .before .before .before .before .before .before .before .before .rises .result) (a .place .at) 0 in
-    let b = ap (λ (ts : List ℕ). all-hold (a .heads .now) (a .held .instances) ts (a .s .now) (a .held .at) k) (sym (c .before .before .before .before .before .before .before .types-before .ensures .stack)) ∙ sym (c .before .before .before .before .before .before .hold .ensures) ∙ not-false _ (c .before .before .before .before .before .if2 .left) in
-    sym (stack-labels (a .list .now) (a .counts .now) (a .types .now) (a .heads .now) (a .s .now) (a .place) (a .held) k (c .before .before .before .before .before .before .before .before .if1 .left) b (sym (c .before .before .beneath .ensures .right) ∙ not-true _ (c .if3 .taken)))
+    let the-args = c .before .before .before .before .before .before .before .before .before .before .before .before .before .before .before .before .args in
+    let the-rises = c .before .before .before .before .before .before .before .before .before .before .rises in
+    let the-pre = c .before .before .before .before .before .before .before .before .before .before .before .before .before .before .before .before .pre in
+    let the-types-before = c .before .before .before .before .before .before .before .types-before in
+    let the-hold = c .before .before .before .before .before .before .hold in
+    let the-if2 = c .before .before .before .before .before .if2 in
+    let the-if1 = c .before .before .before .before .before .before .before .before .if1 in
+    let the-beneath = c .before .before .beneath in
+    let a = the-args in
+    let e = needed-at (a .counts .now) (the-rises .result) (the-pre .0) (the-rises .ensures) in
+    let k = getD (the-rises .result) (a .place .at) 0 in
+    let b = ap (λ (ts : List ℕ). all-hold (a .heads .now) (a .held .instances) ts (a .s .now) (a .held .at) k) (sym (the-types-before .ensures .stack)) ∙ sym (the-hold .ensures) ∙ not-false _ (the-if2 .left) in
+    sym (stack-labels (a .list .now) (a .counts .now) (a .types .now) (a .heads .now) (a .s .now) (a .place) (a .held) k (the-if1 .left) b (sym (the-beneath .ensures .right) ∙ not-true _ (c .if3 .taken)))
     ∙ ap (stack-by (a .list .now) (a .counts .now) (a .types .now) (a .heads .now) (a .s .now) (a .place) (a .held)) e
 
 may-leave-requires : tie.Need-may-leave-requires
-may-leave-requires c κs = let p = c .before .before .before .before .before .before .before .before .before .before .before .before .before .before .before .before .pre .0 in (p .low, p .within, p .short, p .before, c .before .before .beneath .ensures .fits)
+may-leave-requires c κs =
+    let the-pre = c .before .before .before .before .before .before .before .before .before .before .before .before .before .before .before .before .pre in
+    let the-beneath = c .before .before .beneath in
+    let p = the-pre .0 in (p .low, p .within, p .short, p .before, the-beneath .ensures .fits)
 
 returns-4 : tie.Need-returns-4
 returns-4 c =
-    let a = c .before .before .before .before .before .before .before .before .before .before .before .before .before .before .before .before .before .before .args in
-    let e = needed-at (a .counts .now) (c .before .before .before .before .before .before .before .before .before .before .before .before .rises .result) (c .before .before .before .before .before .before .before .before .before .before .before .before .before .before .before .before .before .before .pre .0) (c .before .before .before .before .before .before .before .before .before .before .before .before .rises .ensures) in
-    let k = getD (c .before .before .before .before .before .before .before .before .before .before .before .before .rises .result) (a .place .at) 0 in
-    let b = ap (λ (ts : List ℕ). all-hold (a .heads .now) (a .held .instances) ts (a .s .now) (a .held .at) k) (sym (c .before .before .before .before .before .before .before .before .before .types-before .ensures .stack)) ∙ sym (c .before .before .before .before .before .before .before .before .hold .ensures) ∙ not-false _ (c .before .before .before .before .before .before .before .if2 .left) in
-    let c' = sym (c .before .before .before .before .beneath .ensures .right) ∙ not-false _ (c .before .before .if3 .left) in
+    let the-args = c .before .before .before .before .before .before .before .before .before .before .before .before .before .before .before .before .before .before .args in
+    let the-rises = c .before .before .before .before .before .before .before .before .before .before .before .before .rises in
+    let the-pre = c .before .before .before .before .before .before .before .before .before .before .before .before .before .before .before .before .before .before .pre in
+    let the-types-before = c .before .before .before .before .before .before .before .before .before .types-before in
+    let the-hold = c .before .before .before .before .before .before .before .before .hold in
+    let the-if2 = c .before .before .before .before .before .before .before .if2 in
+    let the-beneath = c .before .before .before .before .beneath in
+    let the-if3 = c .before .before .if3 in
+    let the-if1 = c .before .before .before .before .before .before .before .before .before .before .if1 in
+    let a = the-args in
+    let e = needed-at (a .counts .now) (the-rises .result) (the-pre .0) (the-rises .ensures) in
+    let k = getD (the-rises .result) (a .place .at) 0 in
+    let b = ap (λ (ts : List ℕ). all-hold (a .heads .now) (a .held .instances) ts (a .s .now) (a .held .at) k) (sym (the-types-before .ensures .stack)) ∙ sym (the-hold .ensures) ∙ not-false _ (the-if2 .left) in
+    let c' = sym (the-beneath .ensures .right) ∙ not-false _ (the-if3 .left) in
     let d = ap (λ (ks : List ℕ). words-leave (a .counts .now) (a .list .now) (a .place .from) (a .place .to) ks (a .place .at))
-    (sym (structs-found (a .heads .now) (a .held .instances) (a .s .now) (a .held .at + word-bytes * k) (a .held .height - k) (c .before .before .before .before .beneath .ensures))) ∙ sym (c .before .may-leave .ensures) ∙ not-true _ (c .if4 .taken) in
-    sym (stack-leaves (a .list .now) (a .counts .now) (a .types .now) (a .heads .now) (a .s .now) (a .place) (a .held) k (c .before .before .before .before .before .before .before .before .before .before .if1 .left) b c' d) ∙ ap (stack-by (a .list .now) (a .counts .now) (a .types .now) (a .heads .now) (a .s .now) (a .place) (a .held)) e
+    (sym (structs-found (a .heads .now) (a .held .instances) (a .s .now) (a .held .at + word-bytes * k) (a .held .height - k) (the-beneath .ensures))) ∙ sym (c .before .may-leave .ensures) ∙ not-true _ (c .if4 .taken) in
+    sym (stack-leaves (a .list .now) (a .counts .now) (a .types .now) (a .heads .now) (a .s .now) (a .place) (a .held) k (the-if1 .left) b c' d) ∙ ap (stack-by (a .list .now) (a .counts .now) (a .types .now) (a .heads .now) (a .s .now) (a .place) (a .held)) e
 
 own-right-requires : tie.Need-own-right-requires
-own-right-requires c κs = (c .before .before .before .before .before .before .before .before .before .before .before .before .before .before .before .before .before .before .pre .0, c .before .before .before .before .before .before .before .before .before .before .before .before .before .before .before .before .before .before .pre .1 .within)
+own-right-requires c κs =
+    let the-pre = c .before .before .before .before .before .before .before .before .before .before .before .before .before .before .before .before .before .before .pre in
+    (the-pre .0, the-pre .1 .within)
 
 returns-5 : tie.Need-returns-5
 returns-5 c =
-    let a = c .before .before .before .before .before .before .before .before .before .before .before .before .before .before .before .before .before .before .before .args in
-    let e = needed-at (a .counts .now) (c .before .before .before .before .before .before .before .before .before .before .before .before .before .rises .result) (c .before .before .before .before .before .before .before .before .before .before .before .before .before .before .before .before .before .before .before .pre .0) (c .before .before .before .before .before .before .before .before .before .before .before .before .before .rises .ensures) in
-    let k = getD (c .before .before .before .before .before .before .before .before .before .before .before .before .before .rises .result) (a .place .at) 0 in
-    let b = ap (λ (ts : List ℕ). all-hold (a .heads .now) (a .held .instances) ts (a .s .now) (a .held .at) k) (sym (c .before .before .before .before .before .before .before .before .before .before .types-before .ensures .stack)) ∙ sym (c .before .before .before .before .before .before .before .before .before .hold .ensures) ∙ not-false _ (c .before .before .before .before .before .before .before .before .if2 .left) in
-    let c' = sym (c .before .before .before .before .before .beneath .ensures .right) ∙ not-false _ (c .before .before .before .if3 .left) in
+    let the-args = c .before .before .before .before .before .before .before .before .before .before .before .before .before .before .before .before .before .before .before .args in
+    let the-rises = c .before .before .before .before .before .before .before .before .before .before .before .before .before .rises in
+    let the-pre = c .before .before .before .before .before .before .before .before .before .before .before .before .before .before .before .before .before .before .before .pre in
+    let the-types-before = c .before .before .before .before .before .before .before .before .before .before .types-before in
+    let the-hold = c .before .before .before .before .before .before .before .before .before .hold in
+    let the-if2 = c .before .before .before .before .before .before .before .before .if2 in
+    let the-beneath = c .before .before .before .before .before .beneath in
+    let the-if3 = c .before .before .before .if3 in
+    let the-may-leave = c .before .before .may-leave in
+    let the-if1 = c .before .before .before .before .before .before .before .before .before .before .before .if1 in
+    let a = the-args in
+    let e = needed-at (a .counts .now) (the-rises .result) (the-pre .0) (the-rises .ensures) in
+    let k = getD (the-rises .result) (a .place .at) 0 in
+    let b = ap (λ (ts : List ℕ). all-hold (a .heads .now) (a .held .instances) ts (a .s .now) (a .held .at) k) (sym (the-types-before .ensures .stack)) ∙ sym (the-hold .ensures) ∙ not-false _ (the-if2 .left) in
+    let c' = sym (the-beneath .ensures .right) ∙ not-false _ (the-if3 .left) in
     let d = ap (λ (ks : List ℕ). words-leave (a .counts .now) (a .list .now) (a .place .from) (a .place .to) ks (a .place .at))
-    (sym (structs-found (a .heads .now) (a .held .instances) (a .s .now) (a .held .at + word-bytes * k) (a .held .height - k) (c .before .before .before .before .before .beneath .ensures))) ∙ sym (c .before .before .may-leave .ensures) ∙ not-false _ (c .before .if4 .left) in
+    (sym (structs-found (a .heads .now) (a .held .instances) (a .s .now) (a .held .at + word-bytes * k) (a .held .height - k) (the-beneath .ensures))) ∙ sym (the-may-leave .ensures) ∙ not-false _ (c .before .if4 .left) in
     c .own-right .ensures (a .counts .now) (a .types .now) (a .heads .now)
-    ∙ sym (stack-own (a .list .now) (a .counts .now) (a .types .now) (a .heads .now) (a .s .now) (a .place) (a .held) k (c .before .before .before .before .before .before .before .before .before .before .before .if1 .left) b c' d) ∙ ap (stack-by (a .list .now) (a .counts .now) (a .types .now) (a .heads .now) (a .s .now) (a .place) (a .held)) e
+    ∙ sym (stack-own (a .list .now) (a .counts .now) (a .types .now) (a .heads .now) (a .s .now) (a .place) (a .held) k (the-if1 .left) b c' d) ∙ ap (stack-by (a .list .now) (a .counts .now) (a .types .now) (a .heads .now) (a .s .now) (a .place) (a .held)) e
 
 pub stack-right-spec : {M : Type 1} → statement M
 stack-right-spec =
-    tie.close (tie.spec rises-requires (λ c. search needs) array-read-needed returns types-before-requires hold-requires returns-2 (λ c. search needs) add-beneath beneath-requires returns-3 may-leave-requires returns-4 own-right-requires returns-5)
+    tie.close (tie.spec rises-requires (λ c. search needs) array-read-needed returns types-before-requires hold-requires returns-2 (λ c. search needs)
+    add-beneath beneath-requires returns-3 may-leave-requires returns-4 own-right-requires returns-5)

@@ -22,37 +22,68 @@ loop-holds c = (handed-none _ _ _ _ _ _, omega arith)
 
 passed-requires : tie.Need-passed-requires Inv-loop μ-loop
 passed-requires c κs =
-    let l = c .before .before .loop .inv .0 .long in
-    (c .before .before .before .before .pre .0, omega (arith, c .before .loop-test .taken), omega (arith, c .before .before .before .before .pre .1, c .before .before .before .before .pre .2))
+    let the-loop = c .before .before .loop in
+    let the-pre = c .before .before .before .before .pre in
+    let l = the-loop .inv .0 .long in
+    (the-pre .0, omega (arith, c .before .loop-test .taken), omega (arith, the-pre .1, the-pre .2))
 
 add-sets : tie.Need-add-sets Inv-loop μ-loop
-add-sets c = omega (arith, c .before .before .before .loop-test .taken, c .before .before .before .before .before .before .pre .1)
+add-sets c =
+    let the-loop-test = c .before .before .before .loop-test in
+    let the-pre = c .before .before .before .before .before .before .pre in
+    omega (arith, the-loop-test .taken, the-pre .1)
 
 mul-sets : tie.Need-mul-sets Inv-loop μ-loop
-mul-sets c = omega (arith, c .before .before .before .loop-test .taken, c .before .before .before .before .before .before .pre .1)
+mul-sets c =
+    let the-loop-test = c .before .before .before .loop-test in
+    let the-pre = c .before .before .before .before .before .before .pre in
+    omega (arith, the-loop-test .taken, the-pre .1)
 
 add-sets-2 : tie.Need-add-sets-2 Inv-loop μ-loop
-add-sets-2 c = omega (arith, c .before .before .before .loop-test .taken, c .before .before .before .before .before .before .pre .1)
+add-sets-2 c =
+    let the-loop-test = c .before .before .before .loop-test in
+    let the-pre = c .before .before .before .before .before .before .pre in
+    omega (arith, the-loop-test .taken, the-pre .1)
 
 slice-write-sets : tie.Need-slice-write-sets Inv-loop μ-loop
-slice-write-sets c = let l = c .before .before .before .before .loop .inv .0 .long in omega (arith, c .before .before .before .loop-test .taken, c .before .before .before .before .before .before .pre .1, c .before .before .before .before .before .before .pre .2)
+slice-write-sets c =
+    let the-loop = c .before .before .before .before .loop in
+    let the-loop-test = c .before .before .before .loop-test in
+    let the-pre = c .before .before .before .before .before .before .pre in
+    let l = the-loop .inv .0 .long in omega (arith, the-loop-test .taken, the-pre .1, the-pre .2)
 
 add-sets-3 : tie.Need-add-sets-3 Inv-loop μ-loop
-add-sets-3 c = omega (arith, c .before .before .before .loop-test .taken, c .before .before .before .before .before .before .pre .1)
+add-sets-3 c =
+    let the-loop-test = c .before .before .before .loop-test in
+    let the-pre = c .before .before .before .before .before .before .pre in
+    omega (arith, the-loop-test .taken, the-pre .1)
 
 add-sets-4 : tie.Need-add-sets-4 Inv-loop μ-loop
-add-sets-4 c = omega (arith, c .before .before .before .loop-test .taken, c .before .before .before .before .before .before .pre .1)
+add-sets-4 c =
+    let the-loop-test = c .before .before .before .loop-test in
+    let the-pre = c .before .before .before .before .before .before .pre in
+    omega (arith, the-loop-test .taken, the-pre .1)
 
 mul-sets-2 : tie.Need-mul-sets-2 Inv-loop μ-loop
-mul-sets-2 c = omega (arith, c .before .before .before .loop-test .taken, c .before .before .before .before .before .before .pre .1)
+mul-sets-2 c =
+    let the-loop-test = c .before .before .before .loop-test in
+    let the-pre = c .before .before .before .before .before .before .pre in
+    omega (arith, the-loop-test .taken, the-pre .1)
 
 add-sets-5 : tie.Need-add-sets-5 Inv-loop μ-loop
-add-sets-5 c = omega (arith, c .before .before .before .loop-test .taken, c .before .before .before .before .before .before .pre .1)
+add-sets-5 c =
+    let the-loop-test = c .before .before .before .loop-test in
+    let the-pre = c .before .before .before .before .before .before .pre in
+    omega (arith, the-loop-test .taken, the-pre .1)
 
 slice-write-sets-2 : tie.Need-slice-write-sets-2 Inv-loop μ-loop
 slice-write-sets-2 c =
-    let l = c .before .before .before .before .loop .inv .0 .long in
-    omega (arith, length-set (c .before .before .before .before .loop .sets) (numbers * (c .before .before .before .before .before .before .args .i + 1) + c .before .before .before .before .loop .t) true, c .before .before .before .loop-test .taken, c .before .before .before .before .before .before .pre .1, c .before .before .before .before .before .before .pre .2)
+    let the-loop = c .before .before .before .before .loop in
+    let the-args = c .before .before .before .before .before .before .args in
+    let the-loop-test = c .before .before .before .loop-test in
+    let the-pre = c .before .before .before .before .before .before .pre in
+    let l = the-loop .inv .0 .long in
+    omega (arith, length-set (the-loop .sets) (numbers * (the-args .i + 1) + the-loop .t) true, the-loop-test .taken, the-pre .1, the-pre .2)
 
 add-t : tie.Need-add-t Inv-loop μ-loop
 add-t c = omega (arith, c .before .before .before .loop-test .taken)
@@ -62,14 +93,18 @@ loop-less c = omega (arith, c .before .before .before .loop-test .taken)
 
 loop-again : tie.Need-loop-again Inv-loop μ-loop
 loop-again c =
-    let a = c .before .before .before .before .before .before .args in
-    let h = c .before .before .before .before .loop .inv .0 in
-    let low = c .before .before .before .loop-test .taken in
+    let the-args = c .before .before .before .before .before .before .args in
+    let the-loop = c .before .before .before .before .loop in
+    let the-loop-test = c .before .before .before .loop-test in
+    let the-pre = c .before .before .before .before .before .before .pre in
+    let a = the-args in
+    let h = the-loop .inv .0 in
+    let low = the-loop-test .taken in
     let p = c .before .passed .ensures in
-    let same = passed-same (structs-of (a .found)) (a .makes) (a .k) _ (row-at (a .sets .now) (a .i)) (c .before .before .before .before .loop .t) low (handed-row _ _ _ _ _ _ h) in
+    let same = passed-same (structs-of (a .found)) (a .makes) (a .k) _ (row-at (a .sets .now) (a .i)) (the-loop .t) low (handed-row _ _ _ _ _ _ h) in
     ⊎-elim
-    (λ w. (rw (w .1) (handed-more (structs-of (a .found)) (a .makes) (a .k) (a .i) (a .jump) (a .sets .now) (c .before .before .before .before .loop .t) low h (sym same ∙ sym p ∙ w .0 .taken) (omega (arith, c .before .before .before .before .before .before .pre .1, c .before .before .before .before .before .before .pre .2))), omega arith))
-    (λ w. (rw (w .1) (handed-not (structs-of (a .found)) (a .makes) (a .k) (a .i) (a .jump) (a .sets .now) (c .before .before .before .before .loop .t) low h (sym same ∙ sym p ∙ w .0 .left)), omega arith))
+    (λ w. (rw (w .1) (handed-more (structs-of (a .found)) (a .makes) (a .k) (a .i) (a .jump) (a .sets .now) (the-loop .t) low h (sym same ∙ sym p ∙ w .0 .taken) (omega (arith, the-pre .1, the-pre .2))), omega arith))
+    (λ w. (rw (w .1) (handed-not (structs-of (a .found)) (a .makes) (a .k) (a .i) (a .jump) (a .sets .now) (the-loop .t) low h (sym same ∙ sym p ∙ w .0 .left)), omega arith))
     (c .if1 .came)
 
 same-length : tie.Need-same-length Inv-loop μ-loop
@@ -82,4 +117,5 @@ returns c =
 
 pub hand-on-spec : {M : Type 1} → statement M
 hand-on-spec =
-    tie.close (tie.spec Inv-loop μ-loop loop-holds passed-requires add-sets mul-sets add-sets-2 slice-write-sets add-sets-3 add-sets-4 mul-sets-2 add-sets-5 slice-write-sets-2 add-t loop-less loop-again same-length returns)
+    tie.close (tie.spec Inv-loop μ-loop loop-holds passed-requires add-sets mul-sets add-sets-2 slice-write-sets add-sets-3 add-sets-4 mul-sets-2
+    add-sets-5 slice-write-sets-2 add-t loop-less loop-again same-length returns)

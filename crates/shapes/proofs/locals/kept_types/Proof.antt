@@ -39,9 +39,11 @@ loop-less c = let t = c .before .loop-test .taken in omega arith
 
 loop-again : tie.Need-loop-again Inv-loop μ-loop
 loop-again c =
-    let a = c .before .before .before .before .args in let h = c .before .before .loop .inv in let k = c .kept .ensures in let t = c .before .loop-test .taken in
-    let i = c .before .before .loop .i - 1 in
-    let s : c .before .before .loop .i ≡ suc i = omega arith in
+    let the-args = c .before .before .before .before .args in
+    let the-loop = c .before .before .loop in
+    let a = the-args in let h = the-loop .inv in let k = c .kept .ensures in let t = c .before .loop-test .taken in
+    let i = the-loop .i - 1 in
+    let s : the-loop .i ≡ suc i = omega arith in
     (
     k .0 ∙ ap (kept-one (getD (a .t1) i 0) (getD (a .t2) i 0)) (h .0 ∙ ap (λ (x : ℕ). kept-at (a .t1) (a .t2) x (max-locals - x)) s)
     ∙ kept-step (a .t1) (a .t2) i (omega (arith, h .3)),
@@ -52,9 +54,11 @@ loop-again c =
 
 returns : tie.Need-returns Inv-loop μ-loop
 returns c =
-    let a = c .before .before .before .args in let h = c .before .loop .inv in
+    let the-args = c .before .before .before .args in
+    let a = the-args in let h = c .before .loop .inv in
     (h .0 ∙ ap (λ (x : ℕ). kept-at (a .t1) (a .t2) x (max-locals - x)) (c .loop-test .left), h .1)
 
 pub kept-types-spec : {M : Type 1} → statement M
 kept-types-spec =
-    tie.close (tie.spec Inv-loop μ-loop (λ c κs. search needs) loop-holds sub-i array-read-kept array-read-kept-2 kept-requires loop-less loop-again returns)
+    tie.close (tie.spec Inv-loop μ-loop (λ c κs. search needs) loop-holds sub-i array-read-kept array-read-kept-2 kept-requires loop-less loop-again
+    returns)

@@ -21,24 +21,35 @@ types-before-requires c κs = let p = c .before .before .before .before .before 
 
 returns : tie.Need-returns
 returns c =
-    let a = c .before .before .before .before .before .before .before .before .before .before .before .before .args in
-    let k = c .before .before .before .kept-types .ensures in
-    let same : types-in (c .before .before .before .kept-types .result) ≡ living-types (a .list .now) (a .counts .now) (a .types .now) (a .heads .now) (a .s .now) (a .place) (a .held) =
-    k .0 ∙ ap₂ kept-all (c .before .before .before .before .before .before .living .ensures) (c .before .before .before .before .before .types-before .ensures .locals) in
-    let long = shown-long (c .before .before .before .kept-types .result .bytes) (c .before .before .before .kept-types .result .height) in
+    let the-args = c .before .before .before .before .before .before .before .before .before .before .before .before .args in
+    let the-kept-types = c .before .before .before .kept-types in
+    let the-living = c .before .before .before .before .before .before .living in
+    let the-types-before = c .before .before .before .before .before .types-before in
+    let a = the-args in
+    let k = the-kept-types .ensures in
+    let same : types-in (the-kept-types .result) ≡ living-types (a .list .now) (a .counts .now) (a .types .now) (a .heads .now) (a .s .now) (a .place) (a .held) =
+    k .0 ∙ ap₂ kept-all (the-living .ensures) (the-types-before .ensures .locals) in
+    let long = shown-long (the-kept-types .result .bytes) (the-kept-types .result .height) in
     sym (locals-count (a .list .now) (a .counts .now) (a .types .now) (a .heads .now) (a .s .now) (a .place) (a .held) _
     (λ e. c .if1 .taken (sym long ∙ ap length same ∙ e)))
 
 hold-requires : tie.Need-hold-requires
-hold-requires c κs = let h = c .before .before .before .before .before .before .before .before .before .before .before .before .pre .1 in (h .known, c .before .before .before .kept-types .ensures .1, h .within)
+hold-requires c κs =
+    let the-pre = c .before .before .before .before .before .before .before .before .before .before .before .before .pre in
+    let the-kept-types = c .before .before .before .kept-types in
+    let h = the-pre .1 in (h .known, the-kept-types .ensures .1, h .within)
 
 returns-2 : tie.Need-returns-2
 returns-2 c =
-    let a = c .before .before .before .before .before .before .before .before .before .before .before .before .before .args in
-    let k = c .before .before .before .before .kept-types .ensures in
-    let same : types-in (c .before .before .before .before .kept-types .result) ≡ living-types (a .list .now) (a .counts .now) (a .types .now) (a .heads .now) (a .s .now) (a .place) (a .held) =
-    k .0 ∙ ap₂ kept-all (c .before .before .before .before .before .before .before .living .ensures) (c .before .before .before .before .before .before .types-before .ensures .locals) in
-    let long = shown-long (c .before .before .before .before .kept-types .result .bytes) (c .before .before .before .before .kept-types .result .height) in
+    let the-args = c .before .before .before .before .before .before .before .before .before .before .before .before .before .args in
+    let the-kept-types = c .before .before .before .before .kept-types in
+    let the-living = c .before .before .before .before .before .before .before .living in
+    let the-types-before = c .before .before .before .before .before .before .types-before in
+    let a = the-args in
+    let k = the-kept-types .ensures in
+    let same : types-in (the-kept-types .result) ≡ living-types (a .list .now) (a .counts .now) (a .types .now) (a .heads .now) (a .s .now) (a .place) (a .held) =
+    k .0 ∙ ap₂ kept-all (the-living .ensures) (the-types-before .ensures .locals) in
+    let long = shown-long (the-kept-types .result .bytes) (the-kept-types .result .height) in
     c .hold .ensures ∙ ap (λ (ts : List ℕ). all-hold (a .heads .now) (a .held .instances) ts (a .s .now) (a .held .at) (a .held .height)) same
     ∙ sym (locals-hold (a .list .now) (a .counts .now) (a .types .now) (a .heads .now) (a .s .now) (a .place) (a .held) _
     (sym (ap length same) ∙ long ∙ c .before .if1 .left))

@@ -21,20 +21,27 @@ loop-holds c =
 
 on-requires : tie.Need-on-requires Inv-loop μ-loop
 on-requires c κs =
-    let w = c .before .before .loop .inv .0 in let p = c .before .before .before .before .before .before .before .pre .1 in let t = c .before .loop-test .taken in
+    let the-loop = c .before .before .loop in
+    let the-pre = c .before .before .before .before .before .before .before .pre in
+    let w = the-loop .inv .0 in let p = the-pre .1 in let t = c .before .loop-test .taken in
     record { formed = w .formed; wide = w .wide; room = omega (arith, w .low) }
 
 loop-again : tie.Need-loop-again Inv-loop μ-loop
 loop-again c =
-    let a = c .before .before .before .before .before .before .before .before .args in
-    (walks-next (a .counts .now) (a .types .now) (a .own) (a .list .now) (a .from) (c .before .before .before .loop .i) (c .on .ensures _ _ (c .before .before .before .loop .inv .0)), omega (arith, c .before .before .loop-test .taken))
+    let the-args = c .before .before .before .before .before .before .before .before .args in
+    let the-loop = c .before .before .before .loop in
+    let the-loop-test = c .before .before .loop-test in
+    let a = the-args in
+    (walks-next (a .counts .now) (a .types .now) (a .own) (a .list .now) (a .from) (the-loop .i) (c .on .ensures _ _ (the-loop .inv .0)), omega (arith, the-loop-test .taken))
 
 returns : tie.Need-returns Inv-loop μ-loop
 returns c =
-    let a = c .before .before .before .before .before .before .args in let i = c .before .loop .inv in let t = c .loop-test .left in
+    let the-args = c .before .before .before .before .before .before .args in
+    let a = the-args in let i = c .before .loop .inv in let t = c .loop-test .left in
     let e : c .before .loop .i ≡ a .n = omega (arith, i .1) in
     subst (λ (k : ℕ). Walks (bytes-at (a .counts .now) (a .types .now) (a .own) (a .list .now) (a .from) k) k (c .before .loop .walk)) e (i .0)
 
 pub types-before-spec : {M : Type 1} → statement M
 types-before-spec =
-    tie.close (tie.spec Inv-loop μ-loop (λ c κs. search needs) loop-holds (λ c. search needs) (λ c. search needs) (λ c. search needs) on-requires (λ c. search needs) (λ c. search needs) loop-again returns)
+    tie.close (tie.spec Inv-loop μ-loop (λ c κs. search needs) loop-holds (λ c. search needs) (λ c. search needs) (λ c. search needs) on-requires (λ c.
+    search needs) (λ c. search needs) loop-again returns)

@@ -35,30 +35,41 @@ struct-of-requires : tie.Need-struct-of-requires Inv-loop μ-loop
 struct-of-requires c κs = (c .before .before .before .before .before .before .pre .0, c .before .word-at .ensures .1)
 
 array-write-structs : tie.Need-array-write-structs Inv-loop μ-loop
-array-write-structs c = omega (arith, c .before .before .before .loop-test .taken, c .before .before .before .before .before .before .before .pre .2)
+array-write-structs c =
+    let the-loop-test = c .before .before .before .loop-test in
+    let the-pre = c .before .before .before .before .before .before .before .pre in
+    omega (arith, the-loop-test .taken, the-pre .2)
 
 loop-again : tie.Need-loop-again Inv-loop μ-loop
 loop-again c =
-    let a = c .before .before .before .before .before .before .before .args in let t = c .before .before .before .loop-test .taken in let h = c .before .before .before .before .loop .inv in let w = c .before .before .word-at .ensures .0 in
+    let the-args = c .before .before .before .before .before .before .before .args in
+    let the-loop-test = c .before .before .before .loop-test in
+    let the-loop = c .before .before .before .before .loop in
+    let the-word-at = c .before .before .word-at in
+    let the-pre = c .before .before .before .before .before .before .before .pre in
+    let a = the-args in let t = the-loop-test .taken in let h = the-loop .inv in let w = the-word-at .ensures .0 in
     (
-    c .before .both .ensures ∙ ap₂ _&&_ (h .0) (ap (λ (x : ℕ). ltb x (a .n)) w) ∙ labels-more (a .n) (a .s .now) (a .at) (c .before .before .before .before .loop .j),
-    structs-more (a .heads .now) (a .n) (a .s .now) (a .at) (c .before .before .before .before .loop .j) (c .struct-of .result) (omega (arith, c .before .before .before .before .before .before .before .pre .2))
+    c .before .both .ensures ∙ ap₂ _&&_ (h .0) (ap (λ (x : ℕ). ltb x (a .n)) w) ∙ labels-more (a .n) (a .s .now) (a .at) (the-loop .j),
+    structs-more (a .heads .now) (a .n) (a .s .now) (a .at) (the-loop .j) (c .struct-of .result) (omega (arith, the-pre .2))
     (c .struct-of .ensures ∙ ap (label-struct (a .heads .now) (a .n)) w) (h .1),
     omega arith,
     )
 
 returns : tie.Need-returns Inv-loop μ-loop
 returns c =
-    let a = c .before .before .before .before .args in let h = c .before .loop .inv in let t = c .loop-test .left in
+    let the-args = c .before .before .before .before .args in
+    let the-pre = c .before .before .before .before .pre in
+    let a = the-args in let h = c .before .loop .inv in let t = c .loop-test .left in
     let e : c .before .loop .j ≡ a .m = omega (arith, h .2) in
     let so = subst (λ (x : ℕ). StructsSo (a .heads .now) (a .n) (a .s .now) (a .at) x (c .before .loop .structs)) e (h .1) in
     record {
     right = h .0 ∙ ap (all-labels (a .n) (a .s .now) (a .at)) e;
-    fits = record { wide = so .wide; few = c .before .before .before .before .pre .2 };
+    fits = record { wide = so .wide; few = the-pre .2 };
     count = refl;
     structs = so .each;
     }
 
 pub beneath-spec : {M : Type 1} → statement M
 beneath-spec =
-    tie.close (tie.spec Inv-loop μ-loop loop-holds mul-word-at add-word-at word-at-requires (λ c κs. search needs) struct-of-requires array-write-structs (λ c. search needs) (λ c. search needs) loop-again returns)
+    tie.close (tie.spec Inv-loop μ-loop loop-holds mul-word-at add-word-at word-at-requires (λ c κs. search needs) struct-of-requires array-write-structs
+    (λ c. search needs) (λ c. search needs) loop-again returns)

@@ -34,16 +34,23 @@ holds-requires c κs = (c .before .before .before .before .before .before .pre .
 
 loop-again : tie.Need-loop-again Inv-loop μ-loop
 loop-again c =
-    let a = c .before .before .before .before .before .before .before .before .args in
-    (c .both .ensures ∙ ap₂ _&&_ (c .before .before .before .before .before .loop .inv .0) (c .before .holds .ensures ∙ ap₂ (word-holds (a .heads .now) (a .n)) (c .before .before .before .at .ensures) (c .before .before .word-at .ensures .0))
-    ∙ hold-more (a .heads .now) (a .n) (types-in (a .types)) (a .s .now) (a .at) (c .before .before .before .before .before .loop .j), omega (arith, c .before .before .before .before .loop-test .taken))
+    let the-args = c .before .before .before .before .before .before .before .before .args in
+    let the-loop = c .before .before .before .before .before .loop in
+    let the-at = c .before .before .before .at in
+    let the-word-at = c .before .before .word-at in
+    let the-loop-test = c .before .before .before .before .loop-test in
+    let a = the-args in
+    (c .both .ensures ∙ ap₂ _&&_ (the-loop .inv .0) (c .before .holds .ensures ∙ ap₂ (word-holds (a .heads .now) (a .n)) (the-at .ensures) (the-word-at .ensures .0))
+    ∙ hold-more (a .heads .now) (a .n) (types-in (a .types)) (a .s .now) (a .at) (the-loop .j), omega (arith, the-loop-test .taken))
 
 returns : tie.Need-returns Inv-loop μ-loop
 returns c =
-    let a = c .before .before .before .before .args in let h = c .before .loop .inv in let t = c .loop-test .left in
+    let the-args = c .before .before .before .before .args in
+    let a = the-args in let h = c .before .loop .inv in let t = c .loop-test .left in
     let e : c .before .loop .j ≡ a .m = omega (arith, h .1) in
     h .0 ∙ ap (all-hold (a .heads .now) (a .n) (types-in (a .types)) (a .s .now) (a .at)) e
 
 pub hold-spec : {M : Type 1} → statement M
 hold-spec =
-    tie.close (tie.spec Inv-loop μ-loop loop-holds (λ c κs. search needs) mul-word-at add-word-at word-at-requires holds-requires (λ c κs. search needs) (λ c. search needs) (λ c. search needs) loop-again returns)
+    tie.close (tie.spec Inv-loop μ-loop loop-holds (λ c κs. search needs) mul-word-at add-word-at word-at-requires holds-requires (λ c κs. search needs)
+    (λ c. search needs) (λ c. search needs) loop-again returns)

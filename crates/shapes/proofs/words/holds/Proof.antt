@@ -19,8 +19,12 @@ head-requires c κs = omega (arith, c .before .if3 .taken, c .before .before .be
 
 returns-3 : tie.Need-returns-3
 returns-3 c =
-    ap₂ (λ (x y : ℕ). eqb x y) (ap₂ _+_ (c .before .before .index .ensures .0) (c .before .head .ensures .0)) (c .index2 .ensures .0)
-    ∙ sym (holds-label _ _ _ _ (c .before .before .before .before .before .if1 .left) (c .before .before .before .before .if2 .left) (c .before .before .before .if3 .taken))
+    let the-index = c .before .before .index in
+    let the-if1 = c .before .before .before .before .before .if1 in
+    let the-if2 = c .before .before .before .before .if2 in
+    let the-if3 = c .before .before .before .if3 in
+    ap₂ (λ (x y : ℕ). eqb x y) (ap₂ _+_ (the-index .ensures .0) (c .before .head .ensures .0)) (c .index2 .ensures .0)
+    ∙ sym (holds-label _ _ _ _ (the-if1 .left) (the-if2 .left) (the-if3 .taken))
 
 returns-4 : tie.Need-returns-4
 returns-4 c = sym (holds-none _ _ _ _ (c .before .before .if1 .left) (c .before .if2 .left) (c .if3 .left))

@@ -9,8 +9,7 @@ use Rattle.shapes.proofs.stack.Stack.push.Tie as tie
 
 returns : tie.Need-returns
 returns c =
-    let s = c .args .t1 in let h = c .pre in
-    (
+    let s = c .args .t1 in let h = c .pre in (
       shown-more (s .bytes) (s .height) (c .args .b) (omega (arith, h .0 .wide, h .1)),
       record { wide = length-set (s .bytes) (s .height) (c .args .b) ∙ h .0 .wide; high = omega (arith, h .1) },
       refl,

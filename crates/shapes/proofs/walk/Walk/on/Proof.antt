@@ -11,7 +11,9 @@ use Rattle.shapes.proofs.walk.Walk.on.Tie as tie
 
 returns : tie.Need-returns
 returns c =
-    let a = c .before .before .before .before .before .before .before .args in let e = c .before .before .after .ensures in let l = c .wrote .ensures in
+    let the-args = c .before .before .before .before .before .before .before .args in
+    let the-after = c .before .before .after in
+    let a = the-args in let e = the-after .ensures in let l = c .wrote .ensures in
     walks-more (a .counts .now) (a .types .now) (a .own) (a .w) (e .0) (e .1) (e .2)
     (l .0 ∙ ap (λ (b : ℕ). locals-by (kind (a .w)) (operand (a .w)) b (a .self .locals)) (c .before .at .ensures)) (l .1)
 
