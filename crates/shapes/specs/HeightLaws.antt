@@ -30,7 +30,8 @@ operand-of k v h = omega arith
 module _ (G : Ctx) (counts : List ℕ) (counted : (k : ℕ) → getD counts k 0 ≡ length (G .params k)) where
   pub takes-word : (m : Flat) → word-takes counts (command-word m) ≡ flat-takes G m
   unfolding takes-by command-word com-word
-  takes-word (plain (push t v)) = ap (λ (k : ℕ). takes-by counts k (operand (coded push-kind (code t) (word v)))) (kind-of push-kind (code t) (word v) (omega arith))
+  takes-word (plain (push t v)) = ap (λ (k : ℕ). takes-by counts k (operand (coded push-kind (code t) (word v)))) (kind-of push-kind (code t) (word v)
+      (omega arith))
   takes-word (plain push-this) = ap (λ (k : ℕ). takes-by counts k (operand (coded this-kind 0 0))) (kind-of this-kind 0 0 (omega arith))
   takes-word (plain (rd x)) = ap (λ (k : ℕ). takes-by counts k (operand (coded rd-kind 0 x))) (kind-of rd-kind 0 x (omega arith))
   takes-word (plain (wr x)) = ap (λ (k : ℕ). takes-by counts k (operand (coded wr-kind 0 x))) (kind-of wr-kind 0 x (omega arith))

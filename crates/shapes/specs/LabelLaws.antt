@@ -53,12 +53,12 @@ module _ (f : Found) (fits : FoundFits f) (k : ℕ) (g : ℕ → Bool) where
         rw (e, (rw q at b), lt-ltb t (length (structs-of f)) (omega arith), l, getD-take (f .count) (f .structs) (f .count - suc t) 0 (omega arith))
 
 -- what passes goes by the numbers before
-pub passed-same : (ks : List ℕ) (m : Bool) (k : ℕ) (f g : ℕ → Bool) (t : ℕ) → t < numbers → ((t : ℕ) → t < numbers → f t ≡ g t)
+pub passed-same : (ks : List ℕ) (m : Bool) (k : ℕ) (f g : ℕ → Bool) (t : ℕ) → f t ≡ g t → f (t - 1) ≡ g (t - 1)
     → passed-by ks m k f t ≡ passed-by ks m k g t
 unfolding passed-by grown
-passed-same ks false k f g t h e = e t h
-passed-same ks true k f g zero h e = refl
-passed-same ks true k f g (suc t) h e = rw (e t (omega arith))
+passed-same ks false k f g t e d = e
+passed-same ks true k f g zero e d = refl
+passed-same ks true k f g (suc t) e d = let q : suc t - 1 ≡ t = omega arith in rw (rw q at d)
 
 -- The loop that hands on -------------------------------------------------------------------
 
@@ -153,7 +153,8 @@ module _ (ks : List ℕ) (makes : Bool) (k i jump : ℕ) (sets : List Bool) (u :
       go : (j t : ℕ) → Dec (t ≡ u)
           → (row-at sets j t || (ltb t u && (reached i jump j && passed-by ks makes k (row-at sets i) t)))
           ≡ (row-at sets j t || (ltb t (u + 1) && (reached i jump j && passed-by ks makes k (row-at sets i) t)))
-      go j t (yes q) = rw (q, le-ltb u u (omega arith), lt-ltb u (u + 1) (omega arith), p) (or-none (row-at sets j u) ∙ sym (none (reached i jump j) (row-at sets j u)))
+      go j t (yes q) = rw (q, le-ltb u u (omega arith), lt-ltb u (u + 1) (omega arith), p) (or-none (row-at sets j u) ∙ sym (none (reached i jump j)
+          (row-at sets j u)))
       go j t (no q) = rw (below-same t u q)
 
   -- one that passes
@@ -179,4 +180,5 @@ module _ (ks : List ℕ) (makes : Bool) (k i jump : ℕ) (sets : List Bool) (u :
           (more-here (row-at sets j u) (eqb j (i + 1)) (eqb j (i + 1 + jump)))
       go j t (no q) =
           rw (ne-eqb t u q, below-same t u q)
-          (more-there (row-at sets j t || (ltb t (u + 1) && (reached i jump j && passed-by ks makes k (row-at sets i) t))) (eqb j (i + 1)) (eqb j (i + 1 + jump)))
+          (more-there (row-at sets j t || (ltb t (u + 1) && (reached i jump j && passed-by ks makes k (row-at sets i) t))) (eqb j (i + 1)) (eqb j
+          (i + 1 + jump)))

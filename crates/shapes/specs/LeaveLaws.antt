@@ -22,11 +22,12 @@ use Rattle.commands.specs.Noted.{Note, Note.n-push, Note.n-this, Note.n-not, No
 use Rattle.commands.specs.Noted.{erase}
 use Rattle.commands.specs.Tags.{jump}
 use Rattle.paused.specs.Rise.{rise, left-by}
-use Rattle.paused.specs.Sets.{passed, grown, ahead, numbers-at, at-first, may-leave}
+use Rattle.paused.specs.Sets.{passed, ahead, numbers-at, at-first, may-leave}
 use Rattle.paused.specs.Laws.FlatLaws.{rise-erased}
 use Rattle.shapes.specs.Heights.{kind, operand, rise-at}
 use Rattle.shapes.specs.HeightLaws.{kind-of, operand-of, rise-words}
 use Rattle.shapes.specs.LabelSets.{jump-by, word-jump, word-makes, passed-by, sets-at, words-leave}
+use Rattle.shapes.specs.LabelLaws.{passed-same}
 use Rattle.shapes.specs.RowLaws.{jump-if, jump-none, makes-other, makes-cons}
 use Rattle.shapes.specs.NoteLaws.{note-word}
 use Rattle.shapes.specs.WayLaws.{Listed}
@@ -83,7 +84,8 @@ module _ (G : Ctx) (ks : List ℕ) (c : List Note) (f : ℕ → Bool) (t : ℕ) 
   leaves-word (n-get u v) = let k = kind-of rd-kind 0 (first-local + v) (omega arith) in leaves-none (n-get u v) refl (λ e. omega arith)
   leaves-word (n-set d u v) = let k = kind-of wr-kind 0 (first-local + v) (omega arith) in leaves-none (n-set d u v) refl (λ e. omega arith)
   leaves-word (n-cons j) =
-      ap₂ (λ (b : Bool) (x : ℕ). passed-by ks b x f t) (makes-cons (note-word (n-cons j)) (rise G c) (kind-of cons-kind 0 j (omega arith))) (operand-of cons-kind j (omega arith))
+      ap₂ (λ (b : Bool) (x : ℕ). passed-by ks b x f t) (makes-cons (note-word (n-cons j)) (rise G c) (kind-of cons-kind 0 j (omega arith)))
+      (operand-of cons-kind j (omega arith))
       ∙ go (eqb (rise G c) 0)
     where
       go : (b : Bool) → passed-by ks b j f t ≡ passed ks (elim b [ true ↦ some j | false ↦ none ]) f t
@@ -91,12 +93,6 @@ module _ (G : Ctx) (ks : List ℕ) (c : List Note) (f : ℕ → Bool) (t : ℕ) 
       go false = refl
   leaves-word (n-op o) = let k = kind-of op-kind 0 (op-code o) (omega arith) in leaves-none (n-op o) refl (λ e. omega arith)
   leaves-word (n-if n) = let k = kind-of if-kind 0 n (omega arith) in leaves-none (n-if n) refl (λ e. omega arith)
-
-passed-alike : (ks : List ℕ) (m : Bool) (k : ℕ) (f g : ℕ → Bool) (t : ℕ) → ((t : ℕ) → f t ≡ g t) → passed-by ks m k f t ≡ passed-by ks m k g t
-unfolding passed-by grown
-passed-alike ks false k f g t e = e t
-passed-alike ks true k f g zero e = refl
-passed-alike ks true k f g (suc t) e = rw (e t)
 
 -- numbers place after place
 module _ (G : Ctx) (ks : List ℕ) (c₀ : List Note) where
@@ -128,7 +124,8 @@ module _ (G : Ctx) (counts : List ℕ) (counted : (k : ℕ) → getD counts k 0 
       ap₂ _||_ (sets-forward i (suc d) t (omega arith))
       (ap₂ _&&_ (ap (λ (x : ℕ). eqb d 0 || eqb d x) (ap word-jump w ∙ jump-word m))
       (ap₂ (λ (x y : ℕ). passed-by ks (word-makes x y) (operand x) (sets-at counts list from to ks i 0) t) w high
-      ∙ passed-alike ks (word-makes (note-word m) (rise G c)) (operand (note-word m)) _ (forward G ks c₀ i 0) t (λ u. sets-forward i 0 u (omega arith))
+      ∙ passed-same ks (word-makes (note-word m) (rise G c)) (operand (note-word m)) _ (forward G ks c₀ i 0) t (sets-forward i 0 t (omega arith))
+      (sets-forward i 0 (t - 1) (omega arith))
       ∙ leaves-word G ks c (forward G ks c₀ i 0) t m))
 
   -- whether some way leaves labels of these structs

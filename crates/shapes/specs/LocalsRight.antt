@@ -30,7 +30,8 @@ use Rattle.shapes.specs.StackRight.{StepIn}
 use Rattle.shapes.specs.LivingWords.{living-types, locals-by-types, locals-words}
 use Rattle.shapes.specs.LivingLaws.{kept-living, types-words}
 
-module _ (g : Program) (k : ℕ) (b : Stmts) (list counts types : List ℕ) (p : Place) (step : StepIn (context g k b) (noted (context g k b) b) list counts types p)
+module _ (g : Program) (k : ℕ) (b : Stmts) (list counts types : List ℕ) (p : Place) (step : StepIn (context g k b) (noted
+    (context g k b) b) list counts types p)
     (here : p .at < length (noted (context g k b) b)) (first : Among (alive (lives b)) [])
     (secure : Secure (context g k b) (noted (context g k b) b) (lives b) [] false)
     (marked : Marks (marks-at list (p .from) (p .at)) (alive (drop (p .at) (lives b))))
@@ -45,7 +46,8 @@ module _ (g : Program) (k : ℕ) (b : Stmts) (list counts types : List ℕ) (p :
       let y = comes G counts types (p .own) (step .tables) c₀ list (p .from) (step .listed) (step .ranged) (step .safe) n (omega arith) in
       let at : length c₀ - length (drop n c₀) ≡ n = omega (arith, length-drop n c₀) in
       let written = alive-written first secure (y .way) in
-      kept-living (λ x. body-local b x int) (marks-at list (p .from) n) (bytes-at counts types (p .own) list (p .from) n .locals) (alive (drop n (lives b))) marked
+      kept-living (λ x. body-local b x int) (marks-at list (p .from) n) (bytes-at counts types (p .own) list (p .from) n .locals) (alive (drop n
+      (lives b))) marked
       (λ v m. y .locals v (written v (subst (λ (i : ℕ). List·Memᴰ v (alive (drop i (lives b)))) (sym at) m))) max-locals 0 (omega arith)
 
   pub locals-listed : locals-words list counts types heads s p h

@@ -102,7 +102,8 @@ module _ (G : Ctx) (counts types : List ℕ) (own : ℕ) (T : Tables G counts ty
     after-word n-this χ a r =
         let e : struct-byte own ≡ struct-code + G .own = let s = T .same in let l = T .low in omega arith in
         puts-one (note-word n-this) 0 (struct-code + G .own) (map code χ) (takes-word G counts (T .counted) (erase n-this))
-        (puts-word G counts (T .counted) (erase n-this)) (put-of (note-word n-this) this-kind _ _ (map code χ) (kind-of this-kind 0 0 (omega arith)) refl refl ∙ e)
+        (puts-word G counts (T .counted) (erase n-this)) (put-of (note-word n-this) this-kind _ _ (map code χ) (kind-of this-kind 0 0
+        (omega arith)) refl refl ∙ e)
     after-word n-not χ a r =
         puts-one (note-word n-not) 1 bool-byte (map code χ) (takes-word G counts (T .counted) (erase n-not))
         (puts-word G counts (T .counted) (erase n-not)) (put-of (note-word n-not) not-kind _ _ (map code χ) (kind-of not-kind 0 0 (omega arith)) refl refl)
@@ -118,7 +119,8 @@ module _ (G : Ctx) (counts types : List ℕ) (own : ℕ) (T : Tables G counts ty
         ∙ ap (read-byte types locals v) top
         ∙ read-param types locals v (struct-code + k) (omega (arith, a .0))
         ∙ ap (λ (j : ℕ). getD types (max-params * j + v) 0) back ∙ T .typed k v (a .0) in
-        puts-one w 1 (code (typ G k v)) (map code χ) (takes-word G counts (T .counted) (erase (n-rd k v))) (puts-word G counts (T .counted) (erase (n-rd k v))) put
+        puts-one w 1 (code (typ G k v)) (map code χ) (takes-word G counts (T .counted) (erase (n-rd k v))) (puts-word G counts (T .counted) (erase
+        (n-rd k v))) put
         ∙ ap (λ l. code (typ G k v) ∷ l) (sym (map-drop code 1 χ))
     after-word (n-wr k v) χ a r =
         puts-none (note-word (n-wr k v)) 2 (map code χ) (takes-word G counts (T .counted) (erase (n-wr k v)))
@@ -206,11 +208,13 @@ module _ (G : Ctx) (counts types : List ℕ) (own : ℕ) (T : Tables G counts ty
       let k = kind-of rd-kind 0 (first-local + v) (omega arith) in stays (n-get t v) (getD (map code χ) 1 0) (λ e. omega arith) refl known
   locals-word (n-set true t v) χ f a r wide known =
       let (rest, e) = a .2 in
-      writes (n-set true t v) v (getD (map code χ) 1 0) (kind-of wr-kind 0 (first-local + v) (omega arith)) (operand-of wr-kind (first-local + v) (omega arith)) r wide
+      writes (n-set true t v) v (getD (map code χ) 1 0) (kind-of wr-kind 0 (first-local + v) (omega arith)) (operand-of wr-kind (first-local + v)
+      (omega arith)) r wide
       (ap (λ l. getD (map code l) 1 0) e ∙ ap code (a .1)) (λ u m n. ⊎-elim (λ q. absurd (n q)) (λ q. q) (List·Memᴰ·cases-cons m)) known
   locals-word (n-set false t v) χ f a r wide known =
       let (rest, e) = a .3 in
-      writes (n-set false t v) v (getD (map code χ) 1 0) (kind-of wr-kind 0 (first-local + v) (omega arith)) (operand-of wr-kind (first-local + v) (omega arith)) r wide
+      writes (n-set false t v) v (getD (map code χ) 1 0) (kind-of wr-kind 0 (first-local + v) (omega arith)) (operand-of wr-kind (first-local + v)
+      (omega arith)) r wide
       (ap (λ l. getD (map code l) 1 0) e ∙ ap code (a .1)) (λ u m n. m) known
   locals-word (n-cons j) χ f a r wide known =
       let k = kind-of cons-kind 0 j (omega arith) in stays (n-cons j) (getD (map code χ) 1 0) (λ e. omega arith) refl known

@@ -75,7 +75,8 @@ module _ (heads : List ℕ) (n : ℕ) (s : List ℕ) where
   hold-front t ts at zero = ap (word-holds heads n t) (first-word at) ∙ sym (and-true (word-holds heads n t (word-at s at)))
   hold-front t ts at (suc m) =
       ap₂ _&&_ (hold-front t ts at m) (ap (word-holds heads n (getD ts m 0)) (next-word at m))
-      ∙ and-assoc (word-holds heads n t (word-at s at)) (all-hold heads n ts s (at + word-bytes) m) (word-holds heads n (getD ts m 0) (nth-word s (at + word-bytes) m))
+      ∙ and-assoc (word-holds heads n t (word-at s at)) (all-hold heads n ts s (at + word-bytes) m) (word-holds heads n (getD ts m 0) (nth-word s
+      (at + word-bytes) m))
 
   labels-front : (at m : ℕ) → all-labels n s at (suc m) ≡ (ltb (word-at s at) n && all-labels n s (at + word-bytes) m)
   unfolding all-labels
@@ -128,7 +129,8 @@ module _ (hs : List Held) (heads : List ℕ) (n : ℕ) (known : Labelled hs head
         only-labels at m ∙ ap₂ (all-labels n s) a b
         ∙ sym (ap (λ (z : Bool). z && (true && all-labels n s (at + word-bytes * 0) (m - 0))) (le-leb 0 m (omega arith)))
     above-words (t ∷ χ) at zero =
-        sym (ap (λ (z : Bool). z && (all-hold heads n (map code (t ∷ χ)) s at (suc (length χ)) && all-labels n s (at + word-bytes * suc (length χ)) (0 - suc (length χ))))
+        sym (ap (λ (z : Bool). z && (all-hold heads n (map code (t ∷ χ)) s at (suc (length χ)) && all-labels n s (at + word-bytes * suc (length χ))
+        (0 - suc (length χ))))
         (lt-leb (suc (length χ)) 0 (omega arith)))
     above-words (t ∷ χ) at (suc m) =
         let l = length χ in

@@ -17,11 +17,10 @@ returns c =
     let the-args = c .before .before .before .before .before .before .args in
     let the-takes = c .before .before .before .takes in
     let d = the-drop .ensures in let a = the-args in
-    let none = sym (c .before .puts .ensures .0) ∙ c .if1 .taken in
-    (
-    d .0 ∙ ap (λ (n : ℕ). drop n (types-in (a .s))) (the-takes .ensures .0) ∙ sym (left-less _ _ _ _ none),
-    d .1,
-    omega (arith, d .2),
+    let none = sym (c .before .puts .ensures .0) ∙ c .if1 .taken in (
+      d .0 ∙ ap (λ (n : ℕ). drop n (types-in (a .s))) (the-takes .ensures .0) ∙ sym (left-less _ _ _ _ none),
+      d .1,
+      omega (arith, d .2),
     )
 
 push-requires : tie.Need-push-requires
@@ -38,12 +37,11 @@ returns-2 c =
     let the-puts = c .before .before .before .puts in
     let the-takes = c .before .before .before .before .before .takes in
     let d = the-drop .ensures in let a = the-args in let p = c .push .ensures in
-    let one : word-puts (a .w) ≡ 0 → ⊥ = λ e. the-if1 .left (the-puts .ensures .0 ∙ e) in
-    (
-    p .0 ∙ ap₂ (λ (b : ℕ) (l : List ℕ). b ∷ l) (c .before .put .ensures) (d .0 ∙ ap (λ (n : ℕ). drop n (types-in (a .s))) (the-takes .ensures .0))
-    ∙ sym (left-put _ _ _ _ one),
-    p .1,
-    omega (arith, d .2, p .2),
+    let one : word-puts (a .w) ≡ 0 → ⊥ = λ e. the-if1 .left (the-puts .ensures .0 ∙ e) in (
+      p .0 ∙ ap₂ (λ (b : ℕ) (l : List ℕ). b ∷ l) (c .before .put .ensures) (d .0 ∙ ap (λ (n : ℕ). drop n (types-in (a .s))) (the-takes .ensures .0))
+          ∙ sym (left-put _ _ _ _ one),
+      p .1,
+      omega (arith, d .2, p .2),
     )
 
 pub after-spec : {M : Type 1} → statement M

@@ -42,7 +42,8 @@ returns-6 c =
     let the-if3 = c .before .before .before .before .if3 in
     let the-if4 = c .before .before .before .if4 in
     let the-if5 = c .before .before .if5 in
-    c .result .ensures ∙ ap (result-byte _) (c .before .at2 .ensures) ∙ sym (put-op _ _ _ _ _ _ (the-if1 .left) (the-if2 .left) (the-if3 .left) (the-if4 .left) (the-if5 .left))
+    c .result .ensures ∙ ap (result-byte _) (c .before .at2 .ensures) ∙ sym (put-op _ _ _ _ _ _ (the-if1 .left) (the-if2 .left) (the-if3 .left)
+    (the-if4 .left) (the-if5 .left))
 
 pub put-spec : {M : Type 1} → statement M
 put-spec =

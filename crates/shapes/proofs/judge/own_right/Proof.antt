@@ -16,14 +16,16 @@ after-this-requires c κs = let p = c .before .before .pre .0 in omega (arith, p
 returns : tie.Need-returns
 returns c =
     let the-args = c .before .before .before .before .args in
-    λ counts types heads. sym (own-free (word-at (the-args .s .now) (the-args .held .at)) (the-args .held .label) (the-args .held .height) (sym (c .before .after-this .ensures) ∙ not-true _ (c .if1 .taken)))
+    λ counts types heads. sym (own-free (word-at (the-args .s .now) (the-args .held .at)) (the-args .held .label) (the-args .held .height) (sym
+    (c .before .after-this .ensures) ∙ not-true _ (c .if1 .taken)))
 
 returns-2 : tie.Need-returns-2
 returns-2 c =
     let the-args = c .before .before .before .before .before .before .args in
     let the-after-this = c .before .before .before .after-this in
     let the-if1 = c .before .before .if1 in
-    λ counts types heads. sym (own-none (word-at (the-args .s .now) (the-args .held .at)) (the-args .held .label) (the-args .held .height) (sym (the-after-this .ensures) ∙ not-false _ (the-if1 .left)) (c .if2 .taken))
+    λ counts types heads. sym (own-none (word-at (the-args .s .now) (the-args .held .at)) (the-args .held .label) (the-args .held .height) (sym
+    (the-after-this .ensures) ∙ not-false _ (the-if1 .left)) (c .if2 .taken))
 
 word-at-requires : tie.Need-word-at-requires
 word-at-requires c κs = omega (arith, c .if2 .left, c .before .before .before .before .before .before .pre .1)
@@ -33,7 +35,9 @@ returns-3 c =
     let the-args = c .before .before .before .before .before .before .before .args in
     let the-after-this = c .before .before .before .before .after-this in
     let the-if1 = c .before .before .before .if1 in
-    λ counts types heads. ap (λ (w : ℕ). eqb w (the-args .held .label)) (c .word-at .ensures .0) ∙ sym (own-top (word-at (the-args .s .now) (the-args .held .at)) (the-args .held .label) (the-args .held .height) (sym (the-after-this .ensures) ∙ not-false _ (the-if1 .left)) (c .before .if2 .left))
+    λ counts types heads. ap (λ (w : ℕ). eqb w (the-args .held .label)) (c .word-at .ensures .0) ∙ sym (own-top (word-at (the-args .s .now)
+    (the-args .held .at)) (the-args .held .label) (the-args .held .height) (sym (the-after-this .ensures) ∙ not-false _ (the-if1 .left))
+    (c .before .if2 .left))
 
 pub own-right-spec : {M : Type 1} → statement M
 own-right-spec =

@@ -30,13 +30,19 @@ returns c =
     let the-pre = c .before .before .before .before .before .before .before .before .pre in
     let a = the-args in
     let e = needed-at (a .counts .now) (the-rises .result) (the-pre .0) (the-rises .ensures) in
-    sym (stack-low _ _ _ _ _ (a .place) (a .held) _ (c .if1 .taken)) ∙ ap (stack-by (a .list .now) (a .counts .now) (a .types .now) (a .heads .now) (a .s .now) (a .place) (a .held)) e
+    sym (stack-low _ _ _ _ _ (a .place) (a .held) _ (c .if1 .taken)) ∙ ap (stack-by (a .list .now) (a .counts .now) (a .types .now) (a .heads .now)
+    (a .s .now) (a .place) (a .held)) e
 
 types-before-requires : tie.Need-types-before-requires
-types-before-requires c κs = let p = c .before .before .before .before .before .before .before .before .pre .0 in (omega (arith, p .low, p .within, p .before), omega (arith, p .short, p .before))
+types-before-requires c κs = let p = c .before .before .before .before .before .before .before .before .pre .0 in (
+  omega
+      (arith, p .low, p .within, p .before),
+  omega (arith, p .short, p .before),
+)
 
 hold-requires : tie.Need-hold-requires
-hold-requires c κs = let h = c .before .before .before .before .before .before .before .before .before .pre .1 in let t = c .before .if1 .left in (h .known, c .types-before .ensures .formed, omega (arith, h .within))
+hold-requires c κs = let h = c .before .before .before .before .before .before .before .before .before .pre .1 in let t = c .before .if1 .left in
+    (h .known, c .types-before .ensures .formed, omega (arith, h .within))
 
 returns-2 : tie.Need-returns-2
 returns-2 c =
@@ -48,8 +54,10 @@ returns-2 c =
     let a = the-args in
     let e = needed-at (a .counts .now) (the-rises .result) (the-pre .0) (the-rises .ensures) in
     let k = getD (the-rises .result) (a .place .at) 0 in
-    let b = ap (λ (ts : List ℕ). all-hold (a .heads .now) (a .held .instances) ts (a .s .now) (a .held .at) k) (sym (the-types-before .ensures .stack)) ∙ sym (c .before .hold .ensures) ∙ not-true _ (c .if2 .taken) in
-    sym (stack-holds (a .list .now) (a .counts .now) (a .types .now) (a .heads .now) (a .s .now) (a .place) (a .held) k (the-if1 .left) b) ∙ ap (stack-by (a .list .now) (a .counts .now) (a .types .now) (a .heads .now) (a .s .now) (a .place) (a .held)) e
+    let b = ap (λ (ts : List ℕ). all-hold (a .heads .now) (a .held .instances) ts (a .s .now) (a .held .at) k) (sym (the-types-before .ensures .stack))
+    ∙ sym (c .before .hold .ensures) ∙ not-true _ (c .if2 .taken) in
+    sym (stack-holds (a .list .now) (a .counts .now) (a .types .now) (a .heads .now) (a .s .now) (a .place) (a .held) k (the-if1 .left) b) ∙ ap (stack-by
+    (a .list .now) (a .counts .now) (a .types .now) (a .heads .now) (a .s .now) (a .place) (a .held)) e
 
 add-beneath : tie.Need-add-beneath
 add-beneath c =
@@ -77,8 +85,10 @@ returns-3 c =
     let a = the-args in
     let e = needed-at (a .counts .now) (the-rises .result) (the-pre .0) (the-rises .ensures) in
     let k = getD (the-rises .result) (a .place .at) 0 in
-    let b = ap (λ (ts : List ℕ). all-hold (a .heads .now) (a .held .instances) ts (a .s .now) (a .held .at) k) (sym (the-types-before .ensures .stack)) ∙ sym (the-hold .ensures) ∙ not-false _ (the-if2 .left) in
-    sym (stack-labels (a .list .now) (a .counts .now) (a .types .now) (a .heads .now) (a .s .now) (a .place) (a .held) k (the-if1 .left) b (sym (the-beneath .ensures .right) ∙ not-true _ (c .if3 .taken)))
+    let b = ap (λ (ts : List ℕ). all-hold (a .heads .now) (a .held .instances) ts (a .s .now) (a .held .at) k) (sym (the-types-before .ensures .stack))
+    ∙ sym (the-hold .ensures) ∙ not-false _ (the-if2 .left) in
+    sym (stack-labels (a .list .now) (a .counts .now) (a .types .now) (a .heads .now) (a .s .now) (a .place) (a .held) k (the-if1 .left) b (sym
+    (the-beneath .ensures .right) ∙ not-true _ (c .if3 .taken)))
     ∙ ap (stack-by (a .list .now) (a .counts .now) (a .types .now) (a .heads .now) (a .s .now) (a .place) (a .held)) e
 
 may-leave-requires : tie.Need-may-leave-requires
@@ -89,9 +99,11 @@ may-leave-requires c κs =
 
 returns-4 : tie.Need-returns-4
 returns-4 c =
-    let the-args = c .before .before .before .before .before .before .before .before .before .before .before .before .before .before .before .before .before .before .args in
+    let the-args = c .before .before .before .before .before .before .before .before .before .before .before .before .before .before .before
+    .before .before .before .args in
     let the-rises = c .before .before .before .before .before .before .before .before .before .before .before .before .rises in
-    let the-pre = c .before .before .before .before .before .before .before .before .before .before .before .before .before .before .before .before .before .before .pre in
+    let the-pre = c .before .before .before .before .before .before .before .before .before .before .before .before .before .before .before
+    .before .before .before .pre in
     let the-types-before = c .before .before .before .before .before .before .before .before .before .types-before in
     let the-hold = c .before .before .before .before .before .before .before .before .hold in
     let the-if2 = c .before .before .before .before .before .before .before .if2 in
@@ -101,22 +113,28 @@ returns-4 c =
     let a = the-args in
     let e = needed-at (a .counts .now) (the-rises .result) (the-pre .0) (the-rises .ensures) in
     let k = getD (the-rises .result) (a .place .at) 0 in
-    let b = ap (λ (ts : List ℕ). all-hold (a .heads .now) (a .held .instances) ts (a .s .now) (a .held .at) k) (sym (the-types-before .ensures .stack)) ∙ sym (the-hold .ensures) ∙ not-false _ (the-if2 .left) in
+    let b = ap (λ (ts : List ℕ). all-hold (a .heads .now) (a .held .instances) ts (a .s .now) (a .held .at) k) (sym (the-types-before .ensures .stack))
+    ∙ sym (the-hold .ensures) ∙ not-false _ (the-if2 .left) in
     let c' = sym (the-beneath .ensures .right) ∙ not-false _ (the-if3 .left) in
     let d = ap (λ (ks : List ℕ). words-leave (a .counts .now) (a .list .now) (a .place .from) (a .place .to) ks (a .place .at))
-    (sym (structs-found (a .heads .now) (a .held .instances) (a .s .now) (a .held .at + word-bytes * k) (a .held .height - k) (the-beneath .ensures))) ∙ sym (c .before .may-leave .ensures) ∙ not-true _ (c .if4 .taken) in
-    sym (stack-leaves (a .list .now) (a .counts .now) (a .types .now) (a .heads .now) (a .s .now) (a .place) (a .held) k (the-if1 .left) b c' d) ∙ ap (stack-by (a .list .now) (a .counts .now) (a .types .now) (a .heads .now) (a .s .now) (a .place) (a .held)) e
+    (sym (structs-found (a .heads .now) (a .held .instances) (a .s .now) (a .held .at + word-bytes * k) (a .held .height - k) (the-beneath .ensures)))
+    ∙ sym (c .before .may-leave .ensures) ∙ not-true _ (c .if4 .taken) in
+    sym (stack-leaves (a .list .now) (a .counts .now) (a .types .now) (a .heads .now) (a .s .now) (a .place) (a .held) k (the-if1 .left) b c' d) ∙ ap
+    (stack-by (a .list .now) (a .counts .now) (a .types .now) (a .heads .now) (a .s .now) (a .place) (a .held)) e
 
 own-right-requires : tie.Need-own-right-requires
 own-right-requires c κs =
-    let the-pre = c .before .before .before .before .before .before .before .before .before .before .before .before .before .before .before .before .before .before .pre in
+    let the-pre = c .before .before .before .before .before .before .before .before .before .before .before .before .before .before .before
+    .before .before .before .pre in
     (the-pre .0, the-pre .1 .within)
 
 returns-5 : tie.Need-returns-5
 returns-5 c =
-    let the-args = c .before .before .before .before .before .before .before .before .before .before .before .before .before .before .before .before .before .before .before .args in
+    let the-args = c .before .before .before .before .before .before .before .before .before .before .before .before .before .before .before
+    .before .before .before .before .args in
     let the-rises = c .before .before .before .before .before .before .before .before .before .before .before .before .before .rises in
-    let the-pre = c .before .before .before .before .before .before .before .before .before .before .before .before .before .before .before .before .before .before .before .pre in
+    let the-pre = c .before .before .before .before .before .before .before .before .before .before .before .before .before .before .before
+    .before .before .before .before .pre in
     let the-types-before = c .before .before .before .before .before .before .before .before .before .before .types-before in
     let the-hold = c .before .before .before .before .before .before .before .before .before .hold in
     let the-if2 = c .before .before .before .before .before .before .before .before .if2 in
@@ -127,12 +145,15 @@ returns-5 c =
     let a = the-args in
     let e = needed-at (a .counts .now) (the-rises .result) (the-pre .0) (the-rises .ensures) in
     let k = getD (the-rises .result) (a .place .at) 0 in
-    let b = ap (λ (ts : List ℕ). all-hold (a .heads .now) (a .held .instances) ts (a .s .now) (a .held .at) k) (sym (the-types-before .ensures .stack)) ∙ sym (the-hold .ensures) ∙ not-false _ (the-if2 .left) in
+    let b = ap (λ (ts : List ℕ). all-hold (a .heads .now) (a .held .instances) ts (a .s .now) (a .held .at) k) (sym (the-types-before .ensures .stack))
+    ∙ sym (the-hold .ensures) ∙ not-false _ (the-if2 .left) in
     let c' = sym (the-beneath .ensures .right) ∙ not-false _ (the-if3 .left) in
     let d = ap (λ (ks : List ℕ). words-leave (a .counts .now) (a .list .now) (a .place .from) (a .place .to) ks (a .place .at))
-    (sym (structs-found (a .heads .now) (a .held .instances) (a .s .now) (a .held .at + word-bytes * k) (a .held .height - k) (the-beneath .ensures))) ∙ sym (the-may-leave .ensures) ∙ not-false _ (c .before .if4 .left) in
+    (sym (structs-found (a .heads .now) (a .held .instances) (a .s .now) (a .held .at + word-bytes * k) (a .held .height - k) (the-beneath .ensures)))
+    ∙ sym (the-may-leave .ensures) ∙ not-false _ (c .before .if4 .left) in
     c .own-right .ensures (a .counts .now) (a .types .now) (a .heads .now)
-    ∙ sym (stack-own (a .list .now) (a .counts .now) (a .types .now) (a .heads .now) (a .s .now) (a .place) (a .held) k (the-if1 .left) b c' d) ∙ ap (stack-by (a .list .now) (a .counts .now) (a .types .now) (a .heads .now) (a .s .now) (a .place) (a .held)) e
+    ∙ sym (stack-own (a .list .now) (a .counts .now) (a .types .now) (a .heads .now) (a .s .now) (a .place) (a .held) k (the-if1 .left) b c' d) ∙ ap
+    (stack-by (a .list .now) (a .counts .now) (a .types .now) (a .heads .now) (a .s .now) (a .place) (a .held)) e
 
 pub stack-right-spec : {M : Type 1} → statement M
 stack-right-spec =

@@ -101,7 +101,8 @@ loop-again c =
     let h = the-loop .inv .0 in
     let low = the-loop-test .taken in
     let p = c .before .passed .ensures in
-    let same = passed-same (structs-of (a .found)) (a .makes) (a .k) _ (row-at (a .sets .now) (a .i)) (the-loop .t) low (handed-row _ _ _ _ _ _ h) in
+    let same = passed-same (structs-of (a .found)) (a .makes) (a .k) _ (row-at (a .sets .now) (a .i)) (the-loop .t)
+    (handed-row _ _ _ _ _ _ h (the-loop .t) low) (handed-row _ _ _ _ _ _ h (the-loop .t - 1) (omega arith)) in
     ⊎-elim
     (λ w. (rw (w .1) (handed-more (structs-of (a .found)) (a .makes) (a .k) (a .i) (a .jump) (a .sets .now) (the-loop .t) low h (sym same ∙ sym p ∙ w .0 .taken) (omega (arith, the-pre .1, the-pre .2))), omega arith))
     (λ w. (rw (w .1) (handed-not (structs-of (a .found)) (a .makes) (a .k) (a .i) (a .jump) (a .sets .now) (the-loop .t) low h (sym same ∙ sym p ∙ w .0 .left)), omega arith))

@@ -74,8 +74,10 @@ loop-again c =
     the-rises .ensures (i + 1) (omega arith) (omega (arith, p .3))
     ∙ ap (λ (x : ℕ). rise-at (a .counts .now) (a .list .now) (a .from + x) (a .to - a .from - x)) (add-one i) in
     let made : HandedOn (structs-of (a .found)) (word-makes w h) (operand w) i (the-jump .result) (the-loop .sets) (c .before .hand-on .last .0) =
-    subst (λ (m : Bool). HandedOn (structs-of (a .found)) m (operand w) i (the-jump .result) (the-loop .sets) (c .before .hand-on .last .0)) (the-makes .ensures) (c .before .hand-on .ensures) in
-    let on = subst (λ (j : ℕ). HandedOn (structs-of (a .found)) (word-makes w h) (operand w) i j (the-loop .sets) (c .before .hand-on .last .0)) (the-jump .ensures .0) made in
+    subst (λ (m : Bool). HandedOn (structs-of (a .found)) m (operand w) i (the-jump .result) (the-loop .sets) (c .before .hand-on .last .0))
+    (the-makes .ensures) (c .before .hand-on .ensures) in
+    let on = subst (λ (j : ℕ). HandedOn (structs-of (a .found)) (word-makes w h) (operand w) i j (the-loop .sets) (c .before .hand-on .last .0))
+    (the-jump .ensures .0) made in
     (rows-next _ _ _ _ _ _ i h t e (the-loop .inv .0) on, omega arith)
 
 add-result : tie.Need-add-result Inv-loop μ-loop

@@ -43,13 +43,12 @@ loop-again c =
     let the-loop = c .before .before .loop in
     let a = the-args in let h = the-loop .inv in let k = c .kept .ensures in let t = c .before .loop-test .taken in
     let i = the-loop .i - 1 in
-    let s : the-loop .i ≡ suc i = omega arith in
-    (
-    k .0 ∙ ap (kept-one (getD (a .t1) i 0) (getD (a .t2) i 0)) (h .0 ∙ ap (λ (x : ℕ). kept-at (a .t1) (a .t2) x (max-locals - x)) s)
-    ∙ kept-step (a .t1) (a .t2) i (omega (arith, h .3)),
-    k .1,
-    omega (arith, k .2, h .2, h .3),
-    omega (arith, h .3),
+    let s : the-loop .i ≡ suc i = omega arith in (
+      k .0 ∙ ap (kept-one (getD (a .t1) i 0) (getD (a .t2) i 0)) (h .0 ∙ ap (λ (x : ℕ). kept-at (a .t1) (a .t2) x (max-locals - x)) s)
+          ∙ kept-step (a .t1) (a .t2) i (omega (arith, h .3)),
+      k .1,
+      omega (arith, k .2, h .2, h .3),
+      omega (arith, h .3),
     )
 
 returns : tie.Need-returns Inv-loop μ-loop

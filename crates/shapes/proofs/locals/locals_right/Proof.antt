@@ -17,7 +17,11 @@ living-requires : tie.Need-living-requires
 living-requires c κs = let p = c .before .before .before .before .before .pre .0 in omega (arith, p .low, p .within, p .before)
 
 types-before-requires : tie.Need-types-before-requires
-types-before-requires c κs = let p = c .before .before .before .before .before .before .pre .0 in (omega (arith, p .low, p .within, p .before), omega (arith, p .short, p .before))
+types-before-requires c κs = let p = c .before .before .before .before .before .before .pre .0 in (
+  omega (arith, p .low, p .within, p .before),
+  omega
+      (arith, p .short, p .before),
+)
 
 returns : tie.Need-returns
 returns c =
@@ -27,7 +31,8 @@ returns c =
     let the-types-before = c .before .before .before .before .before .types-before in
     let a = the-args in
     let k = the-kept-types .ensures in
-    let same : types-in (the-kept-types .result) ≡ living-types (a .list .now) (a .counts .now) (a .types .now) (a .heads .now) (a .s .now) (a .place) (a .held) =
+    let same : types-in (the-kept-types .result) ≡ living-types (a .list .now) (a .counts .now) (a .types .now) (a .heads .now) (a .s .now) (a .place)
+    (a .held) =
     k .0 ∙ ap₂ kept-all (the-living .ensures) (the-types-before .ensures .locals) in
     let long = shown-long (the-kept-types .result .bytes) (the-kept-types .result .height) in
     sym (locals-count (a .list .now) (a .counts .now) (a .types .now) (a .heads .now) (a .s .now) (a .place) (a .held) _
@@ -47,7 +52,8 @@ returns-2 c =
     let the-types-before = c .before .before .before .before .before .before .types-before in
     let a = the-args in
     let k = the-kept-types .ensures in
-    let same : types-in (the-kept-types .result) ≡ living-types (a .list .now) (a .counts .now) (a .types .now) (a .heads .now) (a .s .now) (a .place) (a .held) =
+    let same : types-in (the-kept-types .result) ≡ living-types (a .list .now) (a .counts .now) (a .types .now) (a .heads .now) (a .s .now) (a .place)
+    (a .held) =
     k .0 ∙ ap₂ kept-all (the-living .ensures) (the-types-before .ensures .locals) in
     let long = shown-long (the-kept-types .result .bytes) (the-kept-types .result .height) in
     c .hold .ensures ∙ ap (λ (ts : List ℕ). all-hold (a .heads .now) (a .held .instances) ts (a .s .now) (a .held .at) (a .held .height)) same

@@ -31,8 +31,11 @@ loop-again c =
     let the-args = c .before .before .before .before .before .before .before .before .args in
     let the-loop = c .before .before .before .loop in
     let the-loop-test = c .before .before .loop-test in
-    let a = the-args in
-    (walks-next (a .counts .now) (a .types .now) (a .own) (a .list .now) (a .from) (the-loop .i) (c .on .ensures _ _ (the-loop .inv .0)), omega (arith, the-loop-test .taken))
+    let a = the-args in (
+      walks-next (a .counts .now) (a .types .now) (a .own) (a .list .now) (a .from) (the-loop .i) (c .on .ensures _ _ (the-loop .inv .0)),
+      omega
+          (arith, the-loop-test .taken),
+    )
 
 returns : tie.Need-returns Inv-loop μ-loop
 returns c =

@@ -47,12 +47,11 @@ loop-again c =
     let the-loop = c .before .before .before .before .loop in
     let the-word-at = c .before .before .word-at in
     let the-pre = c .before .before .before .before .before .before .before .pre in
-    let a = the-args in let t = the-loop-test .taken in let h = the-loop .inv in let w = the-word-at .ensures .0 in
-    (
-    c .before .both .ensures ∙ ap₂ _&&_ (h .0) (ap (λ (x : ℕ). ltb x (a .n)) w) ∙ labels-more (a .n) (a .s .now) (a .at) (the-loop .j),
-    structs-more (a .heads .now) (a .n) (a .s .now) (a .at) (the-loop .j) (c .struct-of .result) (omega (arith, the-pre .2))
-    (c .struct-of .ensures ∙ ap (label-struct (a .heads .now) (a .n)) w) (h .1),
-    omega arith,
+    let a = the-args in let t = the-loop-test .taken in let h = the-loop .inv in let w = the-word-at .ensures .0 in (
+      c .before .both .ensures ∙ ap₂ _&&_ (h .0) (ap (λ (x : ℕ). ltb x (a .n)) w) ∙ labels-more (a .n) (a .s .now) (a .at) (the-loop .j),
+      structs-more (a .heads .now) (a .n) (a .s .now) (a .at) (the-loop .j) (c .struct-of .result) (omega (arith, the-pre .2))
+          (c .struct-of .ensures ∙ ap (label-struct (a .heads .now) (a .n)) w) (h .1),
+      omega arith,
     )
 
 returns : tie.Need-returns Inv-loop μ-loop
@@ -63,10 +62,10 @@ returns c =
     let e : c .before .loop .j ≡ a .m = omega (arith, h .2) in
     let so = subst (λ (x : ℕ). StructsSo (a .heads .now) (a .n) (a .s .now) (a .at) x (c .before .loop .structs)) e (h .1) in
     record {
-    right = h .0 ∙ ap (all-labels (a .n) (a .s .now) (a .at)) e;
-    fits = record { wide = so .wide; few = the-pre .2 };
-    count = refl;
-    structs = so .each;
+      right = h .0 ∙ ap (all-labels (a .n) (a .s .now) (a .at)) e;
+      fits = record { wide = so .wide; few = the-pre .2 };
+      count = refl;
+      structs = so .each;
     }
 
 pub beneath-spec : {M : Type 1} → statement M

@@ -39,9 +39,12 @@ loop-again c =
     let the-at = c .before .before .before .at in
     let the-word-at = c .before .before .word-at in
     let the-loop-test = c .before .before .before .before .loop-test in
-    let a = the-args in
-    (c .both .ensures ∙ ap₂ _&&_ (the-loop .inv .0) (c .before .holds .ensures ∙ ap₂ (word-holds (a .heads .now) (a .n)) (the-at .ensures) (the-word-at .ensures .0))
-    ∙ hold-more (a .heads .now) (a .n) (types-in (a .types)) (a .s .now) (a .at) (the-loop .j), omega (arith, the-loop-test .taken))
+    let a = the-args in (
+      c .both .ensures ∙ ap₂ _&&_ (the-loop .inv .0) (c .before .holds .ensures ∙ ap₂ (word-holds (a .heads .now) (a .n)) (the-at .ensures)
+          (the-word-at .ensures .0))
+          ∙ hold-more (a .heads .now) (a .n) (types-in (a .types)) (a .s .now) (a .at) (the-loop .j),
+      omega (arith, the-loop-test .taken),
+    )
 
 returns : tie.Need-returns Inv-loop μ-loop
 returns c =
