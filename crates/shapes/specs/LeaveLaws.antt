@@ -33,7 +33,7 @@ use Rattle.shapes.specs.NoteLaws.{note-word}
 use Rattle.shapes.specs.WayLaws.{Listed}
 
 -- a word of the list
-word-in : (c : List Note) (j : ℕ) → j < length c → getD (words (map erase c)) j 0 ≡ note-word (getD c j n-this)
+pub word-in : (c : List Note) (j : ℕ) → j < length c → getD (words (map erase c)) j 0 ≡ note-word (getD c j n-this)
 unfolding words
 word-in [] j h = absurd (omega arith)
 word-in (m ∷ c) zero h = refl

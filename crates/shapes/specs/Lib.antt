@@ -21,3 +21,4 @@ pub mod StackRight
 pub mod LivingWords
 pub mod LivingLaws
 pub mod LocalsRight
+pub mod StepListed
