@@ -22,3 +22,4 @@ pub mod LivingWords
 pub mod LivingLaws
 pub mod LocalsRight
 pub mod StepListed
+pub mod InstanceRight
