@@ -1,7 +1,7 @@
 -- What a command leaves of the types on the stack and of the types of locals, read off its word (02, 'Pausing a run'; `stack-after` of
 -- `commands/specs/Tags.antt`), as type bytes.
 use Prim.Native.Nat.{ℕ, _+_, _-_, _*_, _/_, _%_}
-use mathlib.Core.Bool.{Bool, true, false, _&&_}
+use mathlib.Core.Bool.{true, false, _&&_}
 use mathlib.Core.List.{List, _∷_}
 use lib.ListN.{getD, drop, set}
 use lib.Dec.{ltb, leb, eqb}

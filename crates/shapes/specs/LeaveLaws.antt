@@ -4,19 +4,17 @@ use native.Mathlib.Omega.{arith}
 use native.Mathlib.Nat.{add-zero}
 use mathlib.Core.Path.{_≡_, refl, ap, ap₂, sym, _∙_}
 use mathlib.Core.Bool.{Bool, true, false, _&&_, _||_}
-use mathlib.Core.Option.{Option, none, some}
+use mathlib.Core.Option.{none, some}
 use mathlib.Core.List.{List, [], _∷_, map}
 use lib.ListN.{length, getD, drop, length-map, length-drop}
 use lib.Dec.{eqb}
 use lib.Seq.{drop-cons, getD-drop}
-use borrow.Author.Tests.{eq-eqb, ne-eqb}
 use Rattle.types.specs.Limits.{first-local}
 use Rattle.types.specs.Types.{code}
 use Rattle.types.specs.Values.{word}
 use Rattle.program.specs.Encoding.{op-code}
 use Rattle.commands.specs.CommandKinds.{push-kind, this-kind, rd-kind, wr-kind, cons-kind, if-kind, not-kind, op-kind}
 use Rattle.commands.specs.Coding.{command-word, com-word, words}
-use Rattle.commands.specs.Commands.{Flat}
 use Rattle.commands.specs.Context.{Ctx}
 use Rattle.commands.specs.Noted.{Note, Note.n-push, Note.n-this, Note.n-not, Note.n-rd, Note.n-wr, Note.n-get, Note.n-set, Note.n-cons, Note.n-op, Note.n-if}
 use Rattle.commands.specs.Noted.{erase}
@@ -26,7 +24,7 @@ use Rattle.paused.specs.Sets.{passed, ahead, numbers-at, at-first, may-leave}
 use Rattle.paused.specs.Laws.FlatLaws.{rise-erased}
 use Rattle.shapes.specs.Heights.{kind, operand, rise-at}
 use Rattle.shapes.specs.HeightLaws.{kind-of, operand-of, rise-words}
-use Rattle.shapes.specs.LabelSets.{jump-by, word-jump, word-makes, passed-by, sets-at, words-leave}
+use Rattle.shapes.specs.LabelSets.{word-jump, word-makes, passed-by, sets-at, words-leave}
 use Rattle.shapes.specs.LabelLaws.{passed-same}
 use Rattle.shapes.specs.RowLaws.{jump-if, jump-none, makes-other, makes-cons}
 use Rattle.shapes.specs.NoteLaws.{note-word}

@@ -3,17 +3,17 @@
 use Prim.Native.Nat.{ℕ, _-_, _<_}
 use native.Mathlib.Omega.{arith}
 use mathlib.Core.Path.{_≡_, ap, sym, _∙_, subst}
-use mathlib.Core.Bool.{Bool, false, _&&_}
+use mathlib.Core.Bool.{false, _&&_}
 use mathlib.Core.List.{List, [], map, List·Memᴰ}
-use lib.ListN.{length, getD, drop, length-map, length-drop}
+use lib.ListN.{length, drop, length-map, length-drop}
 use lib.Dec.{eqb}
 use Rattle.types.specs.Limits.{max-locals, nat-end}
-use Rattle.types.specs.Types.{Ty, Ty.int, code}
+use Rattle.types.specs.Types.{Ty.int, code}
 use Rattle.little_endian.specs.Numbers.{word-at}
 use Rattle.program.specs.Tree.{Stmts, Program}
 use Rattle.commands.specs.Context.{body-local, context}
 use Rattle.commands.specs.Noted.{noted}
-use Rattle.commands.specs.Living.{lives, alive, beside, Among}
+use Rattle.commands.specs.Living.{lives, alive, Among}
 use Rattle.commands.specs.Secure.{Secure}
 use Rattle.living.specs.Walk.{marks-at}
 use Rattle.living.specs.Seen.{Marks}

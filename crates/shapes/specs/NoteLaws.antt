@@ -1,32 +1,31 @@
 -- Types read off words are those of the commands with notes (02, 'Pausing a run'): what a command leaves, where it finds what it asks for.
-use Prim.Native.Nat.{ℕ, zero, suc, _+_, _-_, _*_, _/_, _%_, _<_, _≤_}
+use Prim.Native.Nat.{ℕ, _+_, _-_, _*_, _<_, _≤_}
 use native.Mathlib.Omega.{arith}
 use native.Mathlib.Decide.{ℕ-discrete}
 use mathlib.Core.Path.{_≡_, refl, ap, ap₂, sym, _∙_}
 use mathlib.Core.Logic.{⊎-elim}
 use mathlib.Core.Bool.{Bool, true, false}
-use mathlib.Core.List.{List, [], _∷_, _++_, map, List·Memᴰ, List·Memᴰ·head, List·Memᴰ·tail, List·Memᴰ·cases-cons}
+use mathlib.Core.List.{List, _∷_, map, List·Memᴰ, List·Memᴰ·cases-cons}
 use lib.ListN.{length, getD, drop, set}
 use lib.Seq.{getD-set-same, getD-set-other}
-use Rattle.types.specs.Limits.{first-local, variables, max-locals, max-params, max-structs, nat-end}
+use Rattle.types.specs.Limits.{first-local, variables, max-locals, max-params, max-structs}
 use Rattle.types.specs.Types.{Ty, Ty.int, Ty.nat, Ty.bool, Ty.ref, code, struct-code, IsType}
-use Rattle.types.specs.Values.{Val, word}
+use Rattle.types.specs.Values.{word}
 use Rattle.program.specs.Tree.{Op, Op.op-eq, Op.op-ne, Op.op-le, Op.op-ge, Op.op-lt, Op.op-gt, Op.op-mul, Op.op-div, Op.op-rem, Op.op-add, Op.op-sub}
 use Rattle.program.specs.Tree.{Op.op-and, Op.op-or}
 use Rattle.program.specs.Encoding.{op-code}
 use Rattle.commands.specs.CommandKinds.{push-kind, this-kind, rd-kind, wr-kind, cons-kind, if-kind, not-kind, op-kind}
 use Rattle.commands.specs.Coding.{coded, com-word, command-word}
-use Rattle.commands.specs.Commands.{Flat}
 use Rattle.commands.specs.Context.{Ctx, typ}
 use Rattle.commands.specs.Decoding.{InRanges}
 use Rattle.commands.specs.Typing.{sort}
 use Rattle.commands.specs.Noted.{Note, Note.n-push, Note.n-this, Note.n-not, Note.n-rd, Note.n-wr, Note.n-get, Note.n-set, Note.n-cons, Note.n-op, Note.n-if}
 use Rattle.commands.specs.Noted.{erase, now-written}
-use Rattle.commands.specs.Tags.{Tags, tags, stack-after, result-type, Asks}
+use Rattle.commands.specs.Tags.{tags, stack-after, result-type, Asks}
 use Rattle.types.specs.Laws.ListLaws.{map-drop}
 use Rattle.shapes.specs.Heights.{kind, operand, word-takes, word-puts}
 use Rattle.shapes.specs.HeightLaws.{kind-of, operand-of, takes-word, puts-word}
-use Rattle.shapes.specs.Afters.{type-byte, struct-byte, bool-byte, read-byte, result-byte, put-by, word-put, left-on, word-after, locals-by, word-locals}
+use Rattle.shapes.specs.Afters.{type-byte, struct-byte, bool-byte, read-byte, result-byte, put-by, word-put, word-after, locals-by, word-locals}
 use Rattle.shapes.specs.AfterLaws.{read-param, read-local, left-less, left-put, locals-other, locals-param, locals-set}
 
 -- the word of a command with its note

@@ -6,13 +6,13 @@ use native.Mathlib.Numerals.{add-one}
 use mathlib.Core.Path.{_≡_, refl, ap, ap₂, sym, _∙_}
 use mathlib.Core.Bool.{Bool, true, false, _&&_, _||_}
 use mathlib.Core.List.{List}
-use lib.ListN.{length, getD, set, replicate, length-set, length-replicate, getD-replicate}
-use lib.Dec.{eqb, leb}
-use lib.Seq.{getD-set-same, getD-set-other, length-take-le}
+use lib.ListN.{getD, set, replicate, length-set, length-replicate}
+use lib.Dec.{eqb}
+use lib.Seq.{getD-set-same, getD-set-other}
 use borrow.Author.Tests.{le-leb, lt-leb, eq-eqb, ne-eqb}
 use Rattle.commands.specs.CommandKinds.{cons-kind, if-kind}
 use Rattle.paused.specs.Sets.{at-first}
-use Rattle.shapes.specs.Heights.{kind, operand, rise-at, places, Risen}
+use Rattle.shapes.specs.Heights.{kind, operand, rise-at}
 use Rattle.shapes.specs.LabelSets.{jump-by, word-jump, capped, jump-within, word-makes, passed-by, sets-at, numbers, row-at, row-places, HandedOn, RowsAt}
 use Rattle.shapes.specs.LabelLaws.{passed-same}
 

@@ -5,10 +5,9 @@ use native.Mathlib.Decide.{ℕ-discrete, decLt, decLe}
 use mathlib.Core.Path.{_≡_, refl, ap, ap₂, sym, _∙_}
 use mathlib.Core.Bool.{Bool, true, false, _&&_, false≢true}
 use mathlib.Core.List.{List, [], _∷_, map}
-use lib.ListN.{length, getD, take, drop, length-map}
+use lib.ListN.{length, getD, drop}
 use lib.Dec.{ltb, leb, eqb}
-use lib.Seq.{getD-take}
-use borrow.Author.Tests.{lt-ltb, le-ltb, le-leb, lt-leb, eq-eqb, ne-eqb, leb-true, ltb-true}
+use borrow.Author.Tests.{lt-ltb, le-ltb, le-leb, lt-leb, eq-eqb, ne-eqb, ltb-true}
 use Rattle.types.specs.Limits.{nat-end}
 use Rattle.types.specs.Laws.ListLaws.{cons-eq}
 use Rattle.types.specs.Types.{Ty, Ty.int, Ty.nat, Ty.bool, Ty.ref, code, struct-code}
@@ -17,7 +16,7 @@ use Rattle.paused.specs.Paused.{Held}
 use Rattle.paused.specs.Resumed.{struct-in}
 use Rattle.paused.specs.Decide.{is-label, holds-type, above-labels, on-top, own-right}
 use Rattle.shapes.specs.Afters.{bool-byte}
-use Rattle.shapes.specs.StackWords.{word-bytes, nth-word, words-from, struct-at, word-holds, all-hold, all-labels, label-struct}
+use Rattle.shapes.specs.StackWords.{word-bytes, nth-word, words-from, struct-at, word-holds, all-hold, all-labels}
 use Rattle.shapes.specs.StackWordLaws.{holds-any, holds-bool, holds-label, holds-none, label-in}
 use Rattle.shapes.specs.Rightness.{label-structs, own-by}
 

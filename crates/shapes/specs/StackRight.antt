@@ -2,7 +2,7 @@
 use Prim.Native.Nat.{ℕ, zero, suc, _+_, _-_, _*_, _<_, _≤_}
 use native.Mathlib.Omega.{arith}
 use mathlib.Core.Path.{_≡_, refl, ap, sym, _∙_}
-use mathlib.Core.Bool.{Bool, true, false, _&&_}
+use mathlib.Core.Bool.{Bool, true, _&&_}
 use mathlib.Core.List.{List, [], _∷_, map}
 use lib.ListN.{length, getD, getElem?, take, drop}
 use lib.Dec.{leb, eqb}
@@ -23,7 +23,7 @@ use Rattle.paused.specs.Rise.{rise, shape}
 use Rattle.paused.specs.Paused.{Held}
 use Rattle.paused.specs.Resumed.{struct-in}
 use Rattle.paused.specs.Sets.{may-leave}
-use Rattle.paused.specs.Decide.{above-labels, this-at, after-this, own-right, stack-right}
+use Rattle.paused.specs.Decide.{this-at, after-this, own-right, stack-right}
 use Rattle.paused.specs.Laws.RiseLaws.{Level}
 use Rattle.shapes.specs.declared.judge.Place.{Place}
 use Rattle.shapes.specs.declared.judge.Stacked.{Stacked}

@@ -1,11 +1,10 @@
 -- The words of a stack or of locals in a stream, held against type bytes (02, 'Pausing a run'), as code does that has the structs of the labels in memory.
-use Prim.Native.Nat.{ℕ, zero, suc, _+_, _-_, _*_, _%_, _<_, _≤_}
+use Prim.Native.Nat.{ℕ, zero, suc, _+_, _-_, _*_, _%_, _<_}
 use mathlib.Core.Path.{_≡_}
 use mathlib.Core.Bool.{Bool, true, false, _&&_}
 use mathlib.Core.List.{List, [], _∷_}
-use lib.ListN.{length, getD}
+use lib.ListN.{getD}
 use lib.Dec.{ltb, eqb}
-use Rattle.types.specs.Limits.{max-depth}
 use Rattle.types.specs.Types.{struct-code}
 use Rattle.little_endian.specs.Numbers.{word-at}
 use Rattle.layout.specs.Layout.{head, struct-of}

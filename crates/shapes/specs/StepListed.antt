@@ -1,25 +1,25 @@
 -- A step of an accepted program whose words stand in the list (02, 'Pausing a run'): what the laws of this crate ask of it.
-use Prim.Native.Nat.{ℕ, zero, suc, _+_, _<_}
+use Prim.Native.Nat.{ℕ, zero, suc, _+_}
 use native.Mathlib.Omega.{arith}
-use mathlib.Core.Path.{_≡_, refl, ap, sym, _∙_, subst}
+use mathlib.Core.Path.{_≡_, ap, sym, _∙_, subst}
 use mathlib.Core.Option.{some}
 use mathlib.Core.List.{List, [], _∷_, map}
 use lib.ListN.{length, getD, take, drop, length-map}
 use lib.Seq.{getD-take, getD-drop}
-use Rattle.program.specs.Tree.{Stmts, Step, Program}
+use Rattle.program.specs.Tree.{Stmts, Program}
 use Rattle.program.specs.Counts.{All}
 use Rattle.commands.specs.Accepted.{Accepted}
 use Rattle.commands.specs.Coding.{words}
-use Rattle.commands.specs.Commands.{Flat, commands}
+use Rattle.commands.specs.Commands.{commands}
 use Rattle.commands.specs.Context.{context, step-of}
 use Rattle.commands.specs.Decoding.{InRanges}
-use Rattle.commands.specs.Noted.{Note, Note.n-this, erase, noted}
+use Rattle.commands.specs.Noted.{Note, erase, noted}
 use Rattle.commands.specs.Steps.{of-each, found, step-safe}
 use Rattle.commands.specs.Laws.NotedLaws.{erased}
 use Rattle.commands.specs.Laws.RangeLaws.{StepRanged, program-ranged}
 use Rattle.paused.specs.Laws.StepLaws.{step-level}
 use Rattle.shapes.specs.declared.judge.Place.{Place}
-use Rattle.shapes.specs.NoteLaws.{note-word, Tables}
+use Rattle.shapes.specs.NoteLaws.{Tables}
 use Rattle.shapes.specs.WayLaws.{Listed, Ranged}
 use Rattle.shapes.specs.LeaveLaws.{word-in}
 use Rattle.shapes.specs.StackRight.{StepIn}

@@ -2,19 +2,18 @@
 -- there (02, 'Pausing a run').
 use Prim.Native.Nat.{ℕ, zero, suc, _+_, _-_, _<_, _≤_}
 use native.Mathlib.Omega.{arith}
-use native.Mathlib.Nat.{add-zero}
 use mathlib.Core.Path.{_≡_, refl, ap, ap₂, sym, _∙_, subst}
-use mathlib.Core.Bool.{Bool, true, false}
+use mathlib.Core.Bool.{false}
 use mathlib.Core.List.{List, [], _∷_, _++_, map, List·Memᴰ, List·Memᴰ·not-nil}
 use lib.ListN.{length, getD, take, drop, length-drop, length-replicate}
 use lib.Seq.{drop-cons, take-append-seam}
 use Rattle.types.specs.Limits.{max-locals}
-use Rattle.types.specs.Types.{Ty, Ty.ref, code}
+use Rattle.types.specs.Types.{Ty.ref, code}
 use Rattle.types.specs.Laws.ListLaws.{map-take}
 use Rattle.commands.specs.Context.{Ctx}
 use Rattle.commands.specs.Decoding.{InRanges}
-use Rattle.commands.specs.Noted.{Note, Note.n-this, erase, now-written}
-use Rattle.commands.specs.Tags.{Tags, tags, at-start, jump, Safe, Way, Way.start, Way.on, Way.over}
+use Rattle.commands.specs.Noted.{Note, Note.n-this, erase}
+use Rattle.commands.specs.Tags.{Tags, tags, at-start, Safe, Way, Way.start, Way.on, Way.over}
 use Rattle.commands.specs.Living.{alive, beside, Among}
 use Rattle.commands.specs.Secure.{Secure}
 use Rattle.commands.specs.Laws.SafeLaws.{ready, way-safe}
@@ -23,7 +22,7 @@ use Rattle.commands.specs.Laws.SecureWays.{behind, beside-on, beside-over, way-
 use Rattle.paused.specs.Rise.{rise, shape}
 use Rattle.paused.specs.Laws.RiseLaws.{Level}
 use Rattle.paused.specs.Laws.ShapeLaws.{way-labels, way-above}
-use Rattle.shapes.specs.Walks.{Bytes, bytes-after, bytes-at}
+use Rattle.shapes.specs.Walks.{Bytes, bytes-at}
 use Rattle.shapes.specs.Afters.{word-after}
 use Rattle.shapes.specs.AfterLaws.{locals-long}
 use Rattle.shapes.specs.NoteLaws.{note-word, Tables, LocalTypes, after-word, locals-word}

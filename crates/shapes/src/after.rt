@@ -8,7 +8,7 @@ use program::form;
 ghost use mathlib.Core.Path.{_≡_};
 ghost use Prim.Native.Nat.{_+_, _<_, _≤_};
 ghost use lib.ListN.{length};
-ghost use Rattle.types.specs.Limits.{variables, max-locals, step-commands};
+ghost use Rattle.types.specs.Limits.{max-locals, step-commands};
 ghost use Rattle.shapes.specs.Heights.{kind, operand};
 ghost use Rattle.shapes.specs.Stacks.{types-in, Formed};
 ghost use Rattle.shapes.specs.Afters.{struct-byte, read-byte, result-byte, word-put, word-after, locals-by};

@@ -4,7 +4,6 @@ use crate::after::after;
 use crate::after::wrote;
 use crate::stack::Stack;
 use crate::stack::empty;
-ghost use mathlib.Core.Path.{_≡_};
 ghost use Prim.Native.Nat.{ℕ, _+_, _≤_, _<_};
 ghost use lib.ListN.{length};
 ghost use Rattle.types.specs.Limits.{step-commands};

@@ -1,7 +1,5 @@
 -- `after::put` meets its contract: a type for each kind.
-use Prim.Native.Nat.{ℕ}
 use mathlib.Core.Path.{sym, ap, _∙_}
-use native.Mathlib.Omega.{arith}
 use borrow.Author.Needs.{needs}
 use Rattle.shapes.specs.Afters.{read-byte, result-byte}
 use Rattle.shapes.specs.AfterLaws.{put-push, put-this, put-rd, put-cons, put-not, put-op}

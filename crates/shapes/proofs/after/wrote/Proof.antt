@@ -1,6 +1,5 @@
 -- `after::wrote` meets its contract: a wr of a local leaves its type.
 use mathlib.Core.Path.{sym, _∙_}
-use native.Mathlib.Omega.{arith}
 use borrow.Author.Needs.{needs}
 use lib.ListN.{length-set}
 use Rattle.shapes.specs.AfterLaws.{locals-other, locals-param, locals-set, locals-none}

@@ -1,5 +1,4 @@
 -- `judge::after_this` meets its contract: the kind of the command before.
-use native.Mathlib.Omega.{arith}
 use borrow.Author.Needs.{needs}
 use mathlib.Core.Path.{sym}
 use Rattle.shapes.specs.RightLaws.{this-first, this-before}

@@ -1,7 +1,6 @@
 -- `judge::own_right` meets its contract: the own label, where it is asked for.
 use Prim.Native.Nat.{ℕ}
 use native.Mathlib.Omega.{arith}
-use borrow.Author.Needs.{needs}
 use borrow.Author.Tests.{not-true, not-false}
 use mathlib.Core.Path.{sym, ap, _∙_}
 use lib.Dec.{eqb}

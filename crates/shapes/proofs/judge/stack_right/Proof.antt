@@ -1,18 +1,14 @@
 -- `judge::stack_right` meets its contract: a truth for each test's way.
-use Prim.Native.Nat.{ℕ, _+_, _-_, _*_, _≤_}
+use Prim.Native.Nat.{ℕ, _+_, _-_, _*_}
 use native.Mathlib.Omega.{arith}
 use borrow.Author.Needs.{needs}
 use borrow.Author.Tests.{not-true, not-false}
-use mathlib.Core.Path.{_≡_, sym, ap, _∙_}
-use mathlib.Core.Bool.{Bool}
+use mathlib.Core.Path.{sym, ap, _∙_}
 use mathlib.Core.List.{List}
 use lib.ListN.{getD}
-use Rattle.shapes.specs.declared.judge.Place.{Place}
-use Rattle.shapes.specs.declared.judge.Stacked.{Stacked}
-use Rattle.shapes.specs.Heights.{rise-at, Risen}
 use Rattle.shapes.specs.LabelSets.{words-leave}
 use Rattle.shapes.specs.StackWords.{word-bytes, all-hold}
-use Rattle.shapes.specs.Rightness.{PlaceIn, stack-by}
+use Rattle.shapes.specs.Rightness.{stack-by}
 use Rattle.shapes.specs.RightLaws.{structs-found, stack-low, stack-holds, stack-labels, stack-leaves, stack-own, needed-at}
 use Rattle.shapes.proofs.judge.stack_right.Statement.{statement}
 use Rattle.shapes.proofs.judge.stack_right.Tie as tie

@@ -1,10 +1,9 @@
 -- `labels::hand_on` meets its contract. The invariant: the numbers below t are handed on. The measure is how many numbers are left.
-use Prim.Native.Nat.{ℕ, _+_, _-_, _*_, _≤_}
+use Prim.Native.Nat.{_+_, _-_, _*_, _≤_}
 use mathlib.Core.Bool.{true}
 use lib.ListN.{length-set}
 use native.Mathlib.Omega.{arith}
-use borrow.Author.Needs.{needs}
-use mathlib.Core.Path.{_≡_, subst, sym, ap, _∙_}
+use mathlib.Core.Path.{sym, _∙_}
 use mathlib.Core.Logic.{⊎-elim}
 use Rattle.shapes.specs.LabelSets.{structs-of, numbers, row-at}
 use Rattle.shapes.specs.LabelLaws.{HandedBelow, handed-none, handed-row, handed-all, handed-not, handed-more, passed-same}

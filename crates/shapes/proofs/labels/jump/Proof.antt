@@ -1,6 +1,5 @@
 -- `labels::jump` meets its contract: an if's body, as far as it is looked at.
 use native.Mathlib.Omega.{arith}
-use borrow.Author.Needs.{needs}
 use mathlib.Core.Path.{sym}
 use Rattle.shapes.specs.RowLaws.{jump-other, jump-past, jump-in}
 use Rattle.shapes.proofs.labels.jump.Statement.{statement}

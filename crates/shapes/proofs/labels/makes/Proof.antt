@@ -1,5 +1,4 @@
 -- `labels::makes` meets its contract: a cons whose result nobody uses.
-use borrow.Author.Needs.{needs}
 use mathlib.Core.Path.{sym}
 use Rattle.shapes.specs.RowLaws.{makes-other, makes-cons}
 use Rattle.shapes.proofs.labels.makes.Statement.{statement}

@@ -1,6 +1,5 @@
 -- `labels::passed` meets its contract: a truth for each test's way.
 use Prim.Native.Nat.{ℕ}
-use native.Mathlib.Omega.{arith}
 use borrow.Author.Needs.{needs}
 use mathlib.Core.Path.{sym, ap, _∙_}
 use lib.Dec.{eqb}

@@ -4,7 +4,7 @@ use mathlib.Core.Path.{_≡_, refl, subst}
 use native.Mathlib.Omega.{arith}
 use borrow.Author.Needs.{needs}
 use Rattle.shapes.specs.Walks.{bytes-at, Walks}
-use Rattle.shapes.specs.WalkLaws.{WalksOn, walks-first, walks-next}
+use Rattle.shapes.specs.WalkLaws.{walks-first, walks-next}
 use Rattle.shapes.proofs.walk.types_before.Statement.{statement}
 use Rattle.shapes.proofs.walk.types_before.Tie as tie
 

@@ -2,11 +2,9 @@
 use Prim.Native.Nat.{ℕ, _-_, _≤_}
 use native.Mathlib.Omega.{arith}
 use borrow.Author.Needs.{needs}
-use mathlib.Core.Path.{_≡_, refl, ap, ap₂, sym, _∙_, subst}
+use mathlib.Core.Path.{_≡_, refl, ap, ap₂, _∙_, subst}
 use mathlib.Core.Bool.{_&&_}
 use lib.Dec.{ltb}
-use lib.ListN.{length-replicate}
-use Rattle.types.specs.Limits.{max-depth}
 use Rattle.shapes.specs.StackWords.{all-labels, label-struct}
 use Rattle.shapes.specs.StackWordLaws.{labels-more, StructsSo, structs-more}
 use Rattle.shapes.proofs.words.beneath.Statement.{statement}

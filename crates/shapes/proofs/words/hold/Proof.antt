@@ -1,8 +1,8 @@
 -- `words::hold` meets its contract. The invariant: whether the first j words hold their types. The measure is how many words are left.
-use Prim.Native.Nat.{ℕ, _-_, _≤_}
+use Prim.Native.Nat.{_-_, _≤_}
 use native.Mathlib.Omega.{arith}
 use borrow.Author.Needs.{needs}
-use mathlib.Core.Path.{_≡_, refl, ap, ap₂, sym, _∙_}
+use mathlib.Core.Path.{_≡_, refl, ap, ap₂, _∙_}
 use mathlib.Core.Bool.{_&&_}
 use Rattle.shapes.specs.Stacks.{types-in}
 use Rattle.shapes.specs.StackWords.{word-holds, all-hold}

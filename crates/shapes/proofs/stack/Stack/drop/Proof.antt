@@ -1,6 +1,6 @@
 -- `Stack::drop` meets its contract: fewer bytes are shown.
 use native.Mathlib.Omega.{arith}
-use mathlib.Core.Path.{_≡_, refl, sym, _∙_}
+use mathlib.Core.Path.{sym}
 use Rattle.shapes.specs.Stacks.{shown}
 use Rattle.shapes.specs.StackLaws.{shown-less, shown-none}
 use Rattle.shapes.proofs.stack.Stack.drop.Statement.{statement}

@@ -1,8 +1,7 @@
 -- `Walk::on` meets its contract: the types after a command, of the stack and of the locals.
 use Prim.Native.Nat.{ℕ}
-use native.Mathlib.Omega.{arith}
 use borrow.Author.Needs.{needs}
-use mathlib.Core.Path.{sym, ap, _∙_}
+use mathlib.Core.Path.{ap, _∙_}
 use Rattle.shapes.specs.Heights.{kind, operand}
 use Rattle.shapes.specs.Afters.{locals-by}
 use Rattle.shapes.specs.WalkLaws.{walks-more}
