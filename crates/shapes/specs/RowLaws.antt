@@ -126,7 +126,8 @@ module _ (counts list : List ℕ) (from to : ℕ) (ks : List ℕ) (n : ℕ) wher
         let there = places-same (word-jump w) (n - i - 1) j (i + 1) d (omega arith) (omega arith) in
         let known : (u : ℕ) → u < numbers → row-at sets i u ≡ sets-at counts list from to ks i 0 u =
         λ u l. r .rows i u (omega arith) (omega arith) l ∙ ap (λ (x : ℕ). sets-at counts list from to ks i x u) here in
-        let passes = passed-same ks (word-makes w h) (operand w) (row-at sets i) (sets-at counts list from to ks i 0) t (known t q) (known (t - 1) (omega arith))
+        let passes = passed-same ks (word-makes w h) (operand w) (row-at sets i) (sets-at counts list from to ks i 0) t (known t q) (known (t - 1)
+        (omega arith))
         ∙ ap (λ (x : ℕ). passed-by ks (word-makes w x) (operand w) (sets-at counts list from to ks i 0) t) e in
         o .rows j t q ∙ ap₂ _||_ before (ap₂ _&&_ there passes) ∙ ap (λ (x : ℕ). sets-at counts list from to ks x d t) (sym (add-one i));
   }

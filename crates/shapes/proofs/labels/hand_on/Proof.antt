@@ -1,9 +1,10 @@
 -- `labels::hand_on` meets its contract. The invariant: the numbers below t are handed on. The measure is how many numbers are left.
-use Prim.Native.Nat.{_+_, _-_, _*_, _≤_}
+use Prim.Native.Nat.{ℕ, _+_, _-_, _*_, _≤_}
 use mathlib.Core.Bool.{true}
 use lib.ListN.{length-set}
 use native.Mathlib.Omega.{arith}
-use mathlib.Core.Path.{sym, _∙_}
+use borrow.Author.Needs.{needs}
+use mathlib.Core.Path.{_≡_, subst, sym, ap, _∙_}
 use mathlib.Core.Logic.{⊎-elim}
 use Rattle.shapes.specs.LabelSets.{structs-of, numbers, row-at}
 use Rattle.shapes.specs.LabelLaws.{HandedBelow, handed-none, handed-row, handed-all, handed-not, handed-more, passed-same}
@@ -26,54 +27,12 @@ passed-requires c κs =
     let l = the-loop .inv .0 .long in
     (the-pre .0, omega (arith, c .before .loop-test .taken), omega (arith, the-pre .1, the-pre .2))
 
-add-sets : tie.Need-add-sets Inv-loop μ-loop
-add-sets c =
-    let the-loop-test = c .before .before .before .loop-test in
-    let the-pre = c .before .before .before .before .before .before .pre in
-    omega (arith, the-loop-test .taken, the-pre .1)
-
-mul-sets : tie.Need-mul-sets Inv-loop μ-loop
-mul-sets c =
-    let the-loop-test = c .before .before .before .loop-test in
-    let the-pre = c .before .before .before .before .before .before .pre in
-    omega (arith, the-loop-test .taken, the-pre .1)
-
-add-sets-2 : tie.Need-add-sets-2 Inv-loop μ-loop
-add-sets-2 c =
-    let the-loop-test = c .before .before .before .loop-test in
-    let the-pre = c .before .before .before .before .before .before .pre in
-    omega (arith, the-loop-test .taken, the-pre .1)
-
 slice-write-sets : tie.Need-slice-write-sets Inv-loop μ-loop
 slice-write-sets c =
     let the-loop = c .before .before .before .before .loop in
     let the-loop-test = c .before .before .before .loop-test in
     let the-pre = c .before .before .before .before .before .before .pre in
     let l = the-loop .inv .0 .long in omega (arith, the-loop-test .taken, the-pre .1, the-pre .2)
-
-add-sets-3 : tie.Need-add-sets-3 Inv-loop μ-loop
-add-sets-3 c =
-    let the-loop-test = c .before .before .before .loop-test in
-    let the-pre = c .before .before .before .before .before .before .pre in
-    omega (arith, the-loop-test .taken, the-pre .1)
-
-add-sets-4 : tie.Need-add-sets-4 Inv-loop μ-loop
-add-sets-4 c =
-    let the-loop-test = c .before .before .before .loop-test in
-    let the-pre = c .before .before .before .before .before .before .pre in
-    omega (arith, the-loop-test .taken, the-pre .1)
-
-mul-sets-2 : tie.Need-mul-sets-2 Inv-loop μ-loop
-mul-sets-2 c =
-    let the-loop-test = c .before .before .before .loop-test in
-    let the-pre = c .before .before .before .before .before .before .pre in
-    omega (arith, the-loop-test .taken, the-pre .1)
-
-add-sets-5 : tie.Need-add-sets-5 Inv-loop μ-loop
-add-sets-5 c =
-    let the-loop-test = c .before .before .before .loop-test in
-    let the-pre = c .before .before .before .before .before .before .pre in
-    omega (arith, the-loop-test .taken, the-pre .1)
 
 slice-write-sets-2 : tie.Need-slice-write-sets-2 Inv-loop μ-loop
 slice-write-sets-2 c =
@@ -103,8 +62,16 @@ loop-again c =
     let same = passed-same (structs-of (a .found)) (a .makes) (a .k) _ (row-at (a .sets .now) (a .i)) (the-loop .t)
     (handed-row _ _ _ _ _ _ h (the-loop .t) low) (handed-row _ _ _ _ _ _ h (the-loop .t - 1) (omega arith)) in
     ⊎-elim
-    (λ w. (rw (w .1) (handed-more (structs-of (a .found)) (a .makes) (a .k) (a .i) (a .jump) (a .sets .now) (the-loop .t) low h (sym same ∙ sym p ∙ w .0 .taken) (omega (arith, the-pre .1, the-pre .2))), omega arith))
-    (λ w. (rw (w .1) (handed-not (structs-of (a .found)) (a .makes) (a .k) (a .i) (a .jump) (a .sets .now) (the-loop .t) low h (sym same ∙ sym p ∙ w .0 .left)), omega arith))
+    (λ w. (
+      rw (w .1) (handed-more (structs-of (a .found)) (a .makes) (a .k) (a .i) (a .jump) (a .sets .now) (the-loop .t) low h (sym same ∙ sym p
+          ∙ w .0 .taken) (omega (arith, the-pre .1, the-pre .2))),
+      omega arith,
+    ))
+    (λ w. (
+      rw (w .1) (handed-not (structs-of (a .found)) (a .makes) (a .k) (a .i) (a .jump) (a .sets .now) (the-loop .t) low h (sym same ∙ sym p
+          ∙ w .0 .left)),
+      omega arith,
+    ))
     (c .if1 .came)
 
 same-length : tie.Need-same-length Inv-loop μ-loop
@@ -117,5 +84,26 @@ returns c =
 
 pub hand-on-spec : {M : Type 1} → statement M
 hand-on-spec =
-    tie.close (tie.spec Inv-loop μ-loop loop-holds passed-requires add-sets mul-sets add-sets-2 slice-write-sets add-sets-3 add-sets-4 mul-sets-2
-    add-sets-5 slice-write-sets-2 add-t loop-less loop-again same-length returns)
+    tie.close (tie.spec Inv-loop μ-loop loop-holds passed-requires (λ c. omega (
+      arith,
+      c .before .before .before .loop-test .taken,
+      c .before .before
+          .before .before .before .before .pre .1,
+    )) (λ c. omega (
+      arith,
+      c .before .before .before .loop-test .taken,
+      c .before .before .before .before .before
+          .before .pre .1,
+    )) (λ c. omega (arith, c .before .before .before .loop-test .taken, c .before .before .before .before .before .before .pre .1))
+    slice-write-sets (λ c. omega (arith, c .before .before .before .loop-test .taken, c .before .before .before .before .before .before .pre .1)) (λ c.
+    omega (arith, c .before .before .before .loop-test .taken, c .before .before .before .before .before .before .pre .1)) (λ c. omega (
+      arith,
+      c .before
+          .before .before .loop-test .taken,
+      c .before .before .before .before .before .before .pre .1,
+    )) (λ c. omega (
+      arith,
+      c .before .before .before
+          .loop-test .taken,
+      c .before .before .before .before .before .before .pre .1,
+    )) slice-write-sets-2 add-t loop-less loop-again same-length returns)
