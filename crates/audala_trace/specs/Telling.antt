@@ -5,7 +5,7 @@ use Prim.Native.Nat.{ℕ, _+_, _^_, _<_, _≤_}
 use mathlib.Core.Path.{_≡_}
 use mathlib.Core.Bool.{true, false}
 use mathlib.Core.List.{List, _∷_, _++_}
-use lib.ListN.{length, getD, drop}
+use lib.ListN.{length, getD, take, drop}
 use lib.Dec.{eqb, leb}
 use Rattle.types.specs.Limits.{step-names, fix-levels}
 use Rattle.program.specs.Tree.{Program}
@@ -19,14 +19,14 @@ use Rattle.layout.specs.State.{State, state-of}
 use Rattle.memory.specs.Move.{move}
 use Rattle.scheduler.specs.Ready.{Movable}
 use Rattle.interpreter.specs.Ready.{Ready}
-use Rattle.seating.specs.declared.Seat.{Seat}
-use Rattle.seating.specs.Seated.{Seated}
+use Rattle.seating.specs.Seated.{Opens, Seated}
 use Rattle.trace.specs.Trace.{trace}
 use Rattle.trace.specs.LineText.{lines-text, trace-lines}
 use Rattle.trace_lines.specs.declared.Coming.{Coming}
 use Rattle.trace_lines.specs.declared.Told.{Told as Made}
 use Rattle.trace_lines.specs.Told.{Turnable}
 use Rattle.audala_trace.specs.declared.pages.Page.{Page}
+use Rattle.audala_trace.specs.declared.telling.Start.{Start}
 use Rattle.audala_trace.specs.declared.telling.Telling.{Telling}
 use Rattle.audala_trace.specs.Pages.{Paged, blank, longer, Lies}
 
@@ -147,7 +147,15 @@ pub record Ran (p : Program) (m : Machine) (es : List ℕ) (number taken : ℕ) 
   pub returns : run p m es ≡ stopped number taken last
   pub paged : Paged (trace-lines p (trace p m es)) g out
 
--- whatever program and machine are seated
-pub record Plays (s counts : List ℕ) (seat : Seat) (h c es : List ℕ) (r : Telling) (out : List ℕ) : Type 0 where
-  pub ran : (p : Program) (m : Machine) → Seated s counts seat h c p m → Ran p m es (r .number) (r .coming .taken) (r .page) out
+-- a program that is opened and a machine beside it
+pub record Starts (s rows : List ℕ) (z : Start) (h c : List ℕ) (p : Program) (m : Machine) : Type 0 where
+  pub opens : Opens (z .opened) s rows p
+  pub seated : Seated s (take (z .opened .loaded .structs) (z .opened .counts)) (z .seat) h c p m
+
+abbrev pub Starting : List ℕ → List ℕ → Start → List ℕ → List ℕ → Type 0
+Starting s rows z h c = (p : Program) × (m : Machine) × (Starts s rows z h c p m)
+
+-- whatever program and machine they are
+pub record Plays (s rows : List ℕ) (z : Start) (h c es : List ℕ) (r : Telling) (out : List ℕ) : Type 0 where
+  pub ran : (p : Program) (m : Machine) → Starts s rows z h c p m → Ran p m es (r .number) (r .coming .taken) (r .page) out
   pub lies : Lies (r .page) out

@@ -8,8 +8,11 @@ use crate::pages::Page;
 use crate::pages::ended;
 use crate::pages::hand;
 use crate::pages::refused;
+use crate::telling::Start;
 use crate::telling::play;
+use directory::rows::ROWS;
 use load::Load;
+use seating::Opened;
 use seating::SeatRead;
 ghost use Prim.Native.Nat.{_≤_};
 ghost use lib.ListN.{length};
@@ -36,19 +39,28 @@ fn trace(program: &[u8], table: &[u8], turns: &[u8], out: &mut [u8]) -> Page
     let mut stream = [0u8; seating::SHORT];
     let mut counts = [0u8; types::MAX_STRUCTS];
     let mut types = [0u8; types::MAX_STRUCTS * types::MAX_PARAMS];
-    let mut rows = [0u8; types::TABLE_BLOCKS * blocks::PAYLOAD_SIZE];
+    let mut rows = [0u16; ROWS];
+    let mut buffer = [0u8; types::TABLE_BLOCKS * blocks::PAYLOAD_SIZE];
     let mut heads = [0u16; layout::HEADS];
     let mut cells = [0u64; layout::CELLS];
-    let loaded = seating::admit(program, &mut stream, &mut counts, &mut types);
-    let Load::Program(p) = loaded else {
-        return refused(load::refusal(loaded), out);
+    let r = seating::admit(program, &mut stream, &mut counts, &mut types, &mut rows);
+    let Load::Program(loaded) = r else {
+        return refused(load::refusal(r), out);
     };
-    let n = p.length;
-    let k = p.structs as usize;
+    let n = loaded.length;
+    let k = loaded.structs as usize;
     let end = types::MAX_PARAMS * k;
     let cs = &counts[..k];
     let ts = &types[..end];
-    let seated = seating::seat_table(p.at, cs, ts, table, &mut rows, &mut heads, &mut cells);
+    let seated = seating::seat_table(
+        loaded.at,
+        cs,
+        ts,
+        table,
+        &mut buffer,
+        &mut heads,
+        &mut cells,
+    );
     let SeatRead::Taken(seat) = seated else {
         return refused(seating::refusal(seated), out);
     };
@@ -56,9 +68,15 @@ fn trace(program: &[u8], table: &[u8], turns: &[u8], out: &mut [u8]) -> Page
         return refused(types::number::MANY_TURNS, out);
     }
     let s = &stream[..n];
-    let r = play(s, cs, seat, &mut heads, &mut cells, turns, out);
-    let last = r.coming;
-    ended(r.page, r.number, last.taken, out)
+    let opened = Opened {
+        loaded,
+        counts,
+        types,
+    };
+    let start = Start { opened, seat };
+    let told = play(s, &rows, start, &mut heads, &mut cells, turns, out);
+    let last = told.coming;
+    ended(told.page, told.number, last.taken, out)
 }
 
 // The trace of what was read, handed over to its end.

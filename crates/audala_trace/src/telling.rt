@@ -7,6 +7,7 @@ use compile::spans::SPANS;
 use engine::Machine;
 use layout::Numbers;
 use layout::codes;
+use seating::Opened;
 use seating::Seat;
 use trace_lines::Coming;
 use trace_lines::Told;
@@ -15,10 +16,15 @@ ghost use Prim.Native.Nat.{_+_, _^_, _<_, _≤_};
 ghost use lib.ListN.{length};
 ghost use Rattle.types.specs.Limits.{step-names};
 ghost use Rattle.interpreter.specs.Running.{Standing};
-ghost use Rattle.seating.specs.Seated.{Seating};
 ghost use Rattle.trace_lines.specs.Parts.{line-most};
 ghost use Rattle.audala_trace.specs.Pages.{Lies};
-ghost use Rattle.audala_trace.specs.Telling.{first-of, rests, told-at, behind, Moveable, Moves, Settles, Takeable, Takes, Plays};
+ghost use Rattle.audala_trace.specs.Telling.{first-of, rests, told-at, behind, Moveable, Moves, Settles, Takeable, Takes, Starting, Plays};
+
+// An accepted program, and a machine that is seated beside it.
+pub(crate) struct Start {
+    pub opened: Opened,
+    pub seat: Seat,
+}
 
 // A run between two acts: its machine, the step that runs, the turns taken and the byte that comes next; the number that it stops with, and whether
 // a turn is due; the page of its text.
@@ -172,26 +178,32 @@ fn turn(
 // The run of a machine that is seated, told: the lines of its trace stand in the buffer, behind those that were handed over.
 pub(crate) fn play(
     s: &[u8],
-    counts: &[u8],
-    seat: Seat,
+    rows: &[u16],
+    start: Start,
     heads: &mut [u16],
     cells: &mut [u64],
     turns: &[u8],
     out: &mut [u8],
 ) -> Telling
-    requires { ⌜ Seating (now s) (now counts) seat (now heads) (now cells) ⌝ }
+    requires { ⌜ Starting (now s) (now rows) start (now heads) (now cells) ⌝ }
     requires { ⌜ line-most ≤ length (now out) ⌝ }
-    ensures { λ r. ⌜ Plays (now (s .entry)) (now (counts .entry)) seat (now (heads .entry)) (now (cells .entry)) (now (turns .entry)) r (now (out .exit)) ⌝ }
+    ensures { λ r. ⌜ Plays (now (s .entry)) (now (rows .entry)) start (now (heads .entry)) (now (cells .entry)) (now (turns .entry)) r (now (out .exit)) ⌝ }
 {
+    let opened = start.opened;
+    let counts = opened.counts;
+    let p = opened.loaded;
+    let k = p.structs as usize;
+    let cs = &counts[..k];
     let mut list = [0u64; types::MAX_COMMANDS];
     let mut spans = [0u16; SPANS];
     let mut items = [0usize; CODES];
-    compile::program(s, counts, seat.at, &mut list, &mut spans, &mut items);
-    let start = first(seat.numbers);
-    let begun = settle(start, &items, &spans, heads, out);
+    compile::program(s, p.plan, k, rows, p.steps as usize, &mut spans, &mut items);
+    let seat = start.seat;
+    emit_steps::program(s, cs, seat.at, &mut list);
+    let begun = settle(first(seat.numbers), &items, &spans, heads, out);
     let mut next = told_at(begun, turns);
     while next.due {
-        next = turn(next, &list, counts, &spans, heads, cells, out);
+        next = turn(next, &list, cs, &spans, heads, cells, out);
         if next.number == 0 {
             let settled = settle(next, &items, &spans, heads, out);
             next = told_at(settled, turns);

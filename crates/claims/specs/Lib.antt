@@ -8,5 +8,6 @@ pub mod Free
 pub mod Exact
 pub mod Memory
 pub mod Rounds
+pub mod Paused
 pub mod Orders
 pub mod Laws

@@ -8,10 +8,10 @@ use mathlib.Core.Bool.{Bool, true, false, _||_}
 use mathlib.Core.Option.{some}
 use mathlib.Core.List.{List, [], _∷_, map}
 use lib.ListN.{length, getD, set, replicate, take, drop, getD-replicate, length-set, length-replicate, length-map}
-use lib.Dec.{ltb, eqb}
+use lib.Dec.{ltb}
 use lib.Seq.{getD-set-same, getD-set-other, getD-take, getD-drop}
-use borrow.Author.Tests.{ltb-true, ltb-false, eq-eqb, ne-eqb, lt-ltb, le-ltb}
-use Rattle.types.specs.Limits.{first-local, variables, max-locals, nat-end}
+use borrow.Author.Tests.{ltb-true, ltb-false, eq-eqb, ne-eqb}
+use Rattle.types.specs.Limits.{first-local, max-locals}
 use Rattle.types.specs.Types.{Ty, code}
 use Rattle.types.specs.Values.{word}
 use Rattle.program.specs.Tree.{Stmts, Step, Program}
@@ -35,9 +35,9 @@ use Rattle.sound.specs.Laws.AcceptedLaws.{params-counted}
 use Rattle.layout.specs.Layout.{operand}
 use Rattle.layout.specs.State.{bit}
 use Rattle.living.specs.declared.Walk.{Walk}
-use Rattle.living.specs.Walk.{kind, skipped, marked, walk-on, walked, fresh-walk, marks-at}
+use Rattle.living.specs.Walk.{kind, skipped, marked, walked, marks-at}
 use Rattle.living.specs.WalkLaws.{skips-none, skips-in, skips-body, marks-other, marks-param, marks-past, marks-local}
-use Rattle.living.specs.Seen.{left-out, with-set, seen, Marks, Same}
+use Rattle.living.specs.Seen.{left-out, with-set, seen, Marks}
 use Rattle.living.specs.SeenLaws.{seen-lives}
 
 -- Kinds and operands ------------------------------------------------------------------------

@@ -2,7 +2,7 @@
 -- the step's start to that command. The body of an if that ends by then is left out, and every other wr of a local begins its life or finds it alive.
 use Prim.Native.Nat.{ℕ, zero, suc, _-_, _%_}
 use mathlib.Core.Bool.{true, false}
-use mathlib.Core.List.{List}
+use mathlib.Core.List.{List, [], _∷_}
 use lib.ListN.{getD, set, replicate}
 use lib.Dec.{ltb, eqb}
 use Rattle.types.specs.Limits.{first-local, variables, max-locals}
@@ -47,3 +47,18 @@ fresh-walk = record { skip = 0; marks = replicate max-locals 0 }
 -- the marks of command n of the step that begins at a place of the list
 abbrev pub marks-at : List ℕ → ℕ → ℕ → List ℕ
 marks-at list from n = walked list from n fresh-walk .marks
+
+-- The locals with a mark --------------------------------------------------------------------
+
+-- of the k from x on
+unfoldable pub locals-from : List ℕ → ℕ → ℕ → List ℕ
+locals-from ms x zero = []
+locals-from ms x (suc k) = elim (eqb (getD ms x 0) 0) [ true ↦ locals-from ms (suc x) k | false ↦ x ∷ locals-from ms (suc x) k ]
+
+-- of all, in the order of their numbers
+abbrev pub locals-of : List ℕ → List ℕ
+locals-of ms = locals-from ms 0 max-locals
+
+-- those that live before command n of the step that begins at a place of the list
+abbrev pub living-at : List ℕ → ℕ → ℕ → List ℕ
+living-at list from n = locals-of (marks-at list from n)

@@ -3,15 +3,17 @@ use Prim.Native.Nat.{ℕ, zero, suc, _+_, _-_, _<_, _≤_}
 use native.Mathlib.Omega.{arith}
 use native.Mathlib.Numerals.{add-one}
 use native.Mathlib.Nat.{add-zero, sub-zero}
-use mathlib.Core.Path.{_≡_, refl, ap, sym, _∙_}
-use mathlib.Core.List.{List}
-use lib.ListN.{getD, set}
+use mathlib.Core.Path.{_≡_, refl, _∙_}
+use mathlib.Core.Bool.{Bool, true, false}
+use mathlib.Core.List.{List, [], _∷_}
+use lib.ListN.{length, getD, set}
+use lib.Dec.{eqb}
 use borrow.Author.Tests.{lt-ltb, le-ltb, eq-eqb, ne-eqb}
 use Rattle.types.specs.Limits.{first-local, variables}
 use Rattle.commands.specs.CommandKinds.{if-kind, wr-kind}
 use Rattle.layout.specs.Layout.{operand}
 use Rattle.living.specs.declared.Walk.{Walk}
-use Rattle.living.specs.Walk.{kind, skipped, marked, walk-on, walked, fresh-walk, marks-at}
+use Rattle.living.specs.Walk.{kind, skipped, marked, walk-on, walked, fresh-walk, marks-at, locals-from}
 
 -- What is left out --------------------------------------------------------------------------
 
@@ -90,3 +92,36 @@ module _ (list : List ℕ) (from n : ℕ) where
   pub walk-ends : (i : ℕ) (a : Walk) → n ≤ i → a ≡ walk-left i a
   unfolding walked
   walk-ends i a h = let e : n - i ≡ 0 = omega arith in rw (e, walked)
+
+-- The locals with a mark --------------------------------------------------------------------
+
+module _ (ms : List ℕ) (x k : ℕ) (h : x < k) where
+  abbrev after : List ℕ
+  after = locals-from ms (x + 1) (k - (x + 1))
+
+  pub local-off : getD ms x 0 ≡ 0 → locals-from ms x (k - x) ≡ after
+  unfolding locals-from
+  local-off e =
+      let q : k - x ≡ suc (k - (x + 1)) = omega arith in
+      rw (q, locals-from, eq-eqb (getD ms x 0) 0 e, add-one x)
+
+  pub local-on : (getD ms x 0 ≡ 0 → ⊥) → locals-from ms x (k - x) ≡ x ∷ after
+  unfolding locals-from
+  local-on d =
+      let q : k - x ≡ suc (k - (x + 1)) = omega arith in
+      rw (q, locals-from, ne-eqb (getD ms x 0) 0 d, add-one x)
+
+pub locals-none : (ms : List ℕ) (x k : ℕ) → k ≤ x → locals-from ms x (k - x) ≡ []
+unfolding locals-from
+locals-none ms x k h = let e : k - x ≡ 0 = omega arith in rw (e, locals-from)
+
+-- they are few
+pub locals-few : (ms : List ℕ) (x k : ℕ) → length (locals-from ms x k) ≤ k
+unfolding locals-from
+locals-few ms x zero = omega arith
+locals-few ms x (suc k) = go (eqb (getD ms x 0) 0) (locals-few ms (suc x) k)
+  where
+    go : (t : Bool) → length (locals-from ms (suc x) k) ≤ k
+        → length {A = ℕ} (elim t [ true ↦ locals-from ms (suc x) k | false ↦ x ∷ locals-from ms (suc x) k ]) ≤ suc k
+    go true h = omega arith
+    go false h = omega arith

@@ -3,7 +3,7 @@ use commands::kind;
 ghost use mathlib.Core.Path.{_≡_};
 ghost use Prim.Native.Nat.{_+_, _≤_};
 ghost use lib.ListN.{length};
-ghost use Rattle.living.specs.Walk.{skipped, walk-on, marks-at};
+ghost use Rattle.living.specs.Walk.{skipped, walk-on, marks-at, locals-of};
 
 // The locals of a step.
 pub const LOCALS: usize = types::VARIABLES - types::FIRST_LOCAL;
@@ -72,4 +72,19 @@ pub fn living(list: &[u64], from: usize, n: usize) -> [u8; LOCALS]
         i += 1;
     }
     walk.marks
+}
+
+// How many locals have a mark.
+pub fn count(marks: [u8; LOCALS]) -> usize
+    ensures { λ r. ⌜ r ≡ length (locals-of marks) ⌝ }
+{
+    let mut n = 0;
+    let mut x = 0;
+    while x < LOCALS {
+        if marks[x] != 0 {
+            n += 1;
+        }
+        x += 1;
+    }
+    n
 }

@@ -15,7 +15,7 @@ use Rattle.machine.specs.Published.{Sched, Sched.done, Sched.start, Sched.fixpo
 use Rattle.sound.specs.Invariant.{Job}
 use Rattle.paused.specs.Place.{schedule-at, job-at}
 use Rattle.paused.specs.Spot.{Spot, spot}
-use Rattle.paused.specs.Paused.{Held, Paused}
+use Rattle.paused.specs.Paused.{Held, Paused, has-position}
 use Rattle.paused.specs.Standing.{living}
 use Rattle.paused.specs.Decide.{holds-type, stack-right}
 
@@ -70,10 +70,6 @@ module _ (p : Program) (hs : List Held) (l : ℕ) where
 unfoldable pub all-stand : Program → List Held → Job → ℕ → List Held → Bool
 all-stand p hs a l [] = true
 all-stand p hs a l (h ∷ gs) = stands-by p hs l a h (h .position) && all-stand p hs a (suc l) gs
-
-unfoldable pub has-position : Option ℕ → Bool
-has-position none = false
-has-position (some n) = true
 
 unfoldable pub some-holds : List Held → Bool
 some-holds [] = false

@@ -22,12 +22,16 @@ pub mod PausableCounted
 pub mod SetLaws
 pub mod DecideLaws
 pub mod PausedBack
+pub mod HoldersLaws
 pub mod PlaceExact
 pub mod JudgeInstances
 pub mod JudgeLaws
 pub mod LengthLaws
 pub mod CarriedLaws
 pub mod EntryLaws
+pub mod PiecesLaws
 pub mod InputLaws
+pub mod ImagesLaws
+pub mod AnswersLaws
 pub mod LivedLaws
 pub mod FlatLaws

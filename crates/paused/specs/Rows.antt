@@ -2,3 +2,4 @@
 pub mod RowsOpen
 pub mod P
 pub mod Phrases
+pub mod Calls

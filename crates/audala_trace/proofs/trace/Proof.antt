@@ -12,57 +12,70 @@ use Rattle.machine.specs.Machine.{Machine}
 use Rattle.run.specs.Begin.{begin}
 use Rattle.run.specs.Entry.{begun, images}
 use Rattle.load.specs.declared.Loaded.{Loaded}
-use Rattle.load.specs.LoadLaws.{LoadedAs, load-refused, load-value, structs-few, types-are, admitted}
-use Rattle.seating.specs.Seated.{Admits, SeatedTable}
+use Rattle.load.specs.LoadLaws.{LoadedAs, load-refused, load-value, structs-few}
+use Rattle.seating.specs.declared.Opened.{Opened}
+use Rattle.seating.specs.Seated.{Opens, Admits, SeatedTable}
 use Rattle.seating.specs.declared.SeatRead.{SeatRead}
 use Rattle.seating.specs.declared.SeatRead.the-variants.{Taken}
 use Rattle.seating.specs.SizeLaws.{loaded-short}
+use Rattle.seating.specs.AdmitLaws.{held-opens, opens-admits}
 use Rattle.seating.specs.SeatLaws.{images-refused, images-with, with-refused, with-begun}
 use Rattle.trace.specs.TraceTextLaws.{refused-text, many-text, begun-run-text}
+use Rattle.audala_trace.specs.Telling.{Starts}
 use Rattle.audala_trace.proofs.trace.Statement.{statement}
 use Rattle.audala_trace.proofs.trace.Tie as tie
 
 -- The program ----------------------------------------------------------------------------
 
 abbrev start : tie.After-admit → tie.Start
-start c = let at-known = c .before .before .before .before in at-known .before .before .before .before
+start c = let at-stream = c .before .before .before .before in let at-known = at-stream .before in at-known .before .before .before .before
 
 returns : tie.Need-returns
 returns c =
     let at-refused = c .before .before in let at-refusal = at-refused .before .before in let at-told = at-refusal .before in
-    let at-match = at-told .before in let p = at-match .before .before .before .before in let a = start p .args in
+    let at-match = at-told .before in let at-rows = at-match .before in let p = at-rows .before .before .before .before in let a = start p .args in
     let told = at-told .enum-told .given .1 in let e = load-refused (a .program .now) _ (sym (p .admit .ensures .0) ∙ told) in (
       rw (refused-text (a .program .now) (a .table .now) (a .turns .now) (images-refused (a .program .now) (a .table .now) e))
           (rw (at-refusal .refusal .ensures, told) at (at-refused .refused .ensures .0)),
       at-refused .refused .ensures .1,
     )
 
-abbrev at-admit : tie.After-loaded → tie.After-admit
-at-admit c = let at-match = c .before in at-match .before .before .before .before
+abbrev at-admit : tie.After-r → tie.After-admit
+at-admit c = let at-match = c .before in let at-rows = at-match .before in at-rows .before .before .before .before
 
-abbrev answered : tie.After-loaded → Loaded
-answered c = c .loaded .given .0 .0
+abbrev answered : tie.After-r → Loaded
+answered c = c .r .given .0 .0
 
-loads : (c : tie.After-loaded) → LoadedAs (start (at-admit c) .args .program .now) (answered c)
-loads c = load-value _ _ (sym (at-admit c .admit .ensures .0) ∙ c .loaded .given .1)
+loads : (c : tie.After-r) → LoadedAs (start (at-admit c) .args .program .now) (answered c)
+loads c = load-value _ _ (sym (at-admit c .admit .ensures .0) ∙ c .r .given .1)
 
 -- what stands in the program's memory: the stream, and the tables of the parameters
-abbrev stream-of : tie.After-loaded → List ℕ
+abbrev stream-of : tie.After-r → List ℕ
 stream-of c = take (answered c .length) (at-admit c .admit .last .1 .0)
 
-abbrev counts-of : tie.After-loaded → List ℕ
+abbrev counts-of : tie.After-r → List ℕ
 counts-of c = take (answered c .structs) (at-admit c .admit .last .1 .1 .0)
 
-abbrev types-of : tie.After-loaded → List ℕ
+abbrev types-of : tie.After-r → List ℕ
 types-of c = take (max-params * answered c .structs) (at-admit c .admit .last .1 .1 .1 .0)
 
-admits : (c : tie.After-loaded) → Admits (stream-of c) (counts-of c) (types-of c) (answered c .at) (loads c .program)
-admits c = record {
-  admitted = admitted _ _ (loads c) _ _ _ _ _ _ (at-admit c .admit .ensures .1);
-  typed = types-are _ _ (loads c) _ _ _ _ _ _ (at-admit c .admit .ensures .1);
-}
+abbrev rows-of : tie.After-r → List ℕ
+rows-of c = at-admit c .admit .last .1 .1 .1 .1 .0
 
-abbrev at-loaded : tie.After-struct-known → tie.After-loaded
+-- the program is opened
+abbrev opened-of : tie.After-r → Opened
+opened-of c = record { loaded = answered c; counts = at-admit c .admit .last .1 .1 .0; types = at-admit c .admit .last .1 .1 .1 .0 }
+
+opens : (c : tie.After-r) → Opens (opened-of c) (stream-of c) (rows-of c) (loads c .program)
+opens c =
+    let a = at-admit c .admit in let lengths = a .kept .1 .1 in
+    held-opens _ _ (loads c) _ (a .ensures .1 .1) (omega (arith, lengths .1 .1 .0)) _ _ _ _ _ _ (a .ensures .1 .0) (omega (arith, lengths .0))
+    (omega (arith, lengths .1 .0))
+
+admits : (c : tie.After-r) → Admits (stream-of c) (counts-of c) (types-of c) (answered c .at) (loads c .program)
+admits c = opens-admits (opens c)
+
+abbrev at-loaded : tie.After-struct-known → tie.After-r
 at-loaded c = c .before .before
 
 array-share-prefix-counts : tie.Need-array-share-prefix-counts
@@ -79,7 +92,7 @@ slice-aggregate-ts c = sym (length-take-le _ _ (array-share-prefix-types (c .bef
 
 -- The table --------------------------------------------------------------------------------
 
-abbrev before-table : tie.After-cells → tie.After-loaded
+abbrev before-table : tie.After-cells → tie.After-r
 before-table c = let at-types = c .before .before .before in at-loaded (at-types .before .before)
 
 seat-table-requires : tie.Need-seat-table-requires
@@ -112,7 +125,7 @@ returns-2 c =
 abbrev at-seat : tie.After-seated → tie.After-seat-table
 at-seat c = let at-match = c .before in at-match .before .before .before .before
 
-abbrev the-loaded : tie.After-seated → tie.After-loaded
+abbrev the-loaded : tie.After-seated → tie.After-r
 the-loaded c = before-table (at-seat c .before)
 
 abbrev the-start : tie.After-seated → tie.Start
@@ -157,20 +170,31 @@ array-share-prefix-stream c = let l = the-loaded (the-read c) in omega (arith, l
 slice-aggregate-s : tie.Need-slice-aggregate-s
 slice-aggregate-s c = sym (length-take-le _ _ (array-share-prefix-stream (c .before)))
 
+slice-aggregate-play : tie.Need-slice-aggregate-play
+slice-aggregate-play c = omega (arith, at-admit (the-loaded (the-read (c .before .before))) .admit .kept .1 .1 .1 .1 .0)
+
 abbrev the-program : tie.Else1 → Program
 the-program c = loads (the-loaded (the-read c)) .program
 
 abbrev first : tie.Else1 → Machine
 first c = begin (the-program c) (seated (the-read c) .0)
 
+starts : (c : tie.Else1) → Starts (stream-of (the-loaded (the-read c))) (rows-of (the-loaded (the-read c)))
+    (record { opened = opened-of (the-loaded (the-read c)); seat = the-read c .seated .given .0 .0 })
+    (at-seat (the-read c) .seat-table .last .1 .1 .1 .1 .1 .0) (at-seat (the-read c) .seat-table .last .1 .1 .1 .1 .1 .1 .0) (the-program c) (first c)
+starts c = record { opens = opens (the-loaded (the-read c)); seated = seated (the-read c) .2 }
+
+abbrev after-14 : tie.After-play-arg → tie.Else1
+after-14 c = let at-rows = c .before .before .before in at-rows .before .before
+
 play-requires : tie.Need-play-requires
-play-requires c κs = let f = c .before .before .before .before in ((the-program f, first f, seated (the-read f) .2), the-start (the-read f) .pre)
+play-requires c κs = let f = after-14 c in ((the-program f, first f, starts f), the-start (the-read f) .pre)
 
 returns-4 : tie.Need-returns-4
 returns-4 c =
     let at-ended = c .before .before in let at-last = at-ended .before .before in let at-cells = at-last .before .before .before in
-    let p = at-cells .before .before in let at-heads = p .before .before .before in let f = at-heads .before .before in
-    let r = the-read f in let a = the-start r .args in let ran = p .play .ensures .ran (the-program f) (first f) (seated r .2) in (
+    let p = at-cells .before .before in let f = after-14 (p .before) in
+    let r = the-read f in let a = the-start r .args in let ran = p .play .ensures .ran (the-program f) (first f) (starts f) in (
       rw (begun-run-text (a .program .now) (a .table .now) (a .turns .now) (begins r) (f .if1 .left) (ran .returns))
           (at-ended .ended .ensures .0 _ (ran .paged)),
       at-ended .ended .ensures .1,
@@ -179,9 +203,9 @@ returns-4 c =
 pub trace-spec : {M : Type 1} → statement M
 trace-spec =
     tie.close
-    (tie.spec (λ c. search needs) (λ c. search needs) (λ c. search needs) (λ c κs. search needs) (λ c. search needs) (λ c. search needs)
+    (tie.spec (λ c. search needs) (λ c. search needs) (λ c. search needs) (λ c. search needs) (λ c κs. search needs) (λ c. search needs) (λ c. search needs)
     (λ c κs. search needs) (λ c κs. search needs) (λ c. search needs) returns (λ c. search needs) (λ c. search needs) array-share-prefix-counts
     slice-aggregate-cs array-share-prefix-types slice-aggregate-ts (λ c. search needs) (λ c. search needs) (λ c. search needs) seat-table-requires
     (λ c. search needs) (λ c. search needs) (λ c κs. search needs) refused-requires-2 (λ c. search needs) returns-2 refused-requires-3
-    (λ c. search needs) returns-3 array-share-prefix-stream slice-aggregate-s (λ c. search needs) (λ c. search needs)
+    (λ c. search needs) returns-3 array-share-prefix-stream slice-aggregate-s slice-aggregate-play (λ c. search needs) (λ c. search needs)
     play-requires (λ c κs. search needs) (λ c. search needs) returns-4)

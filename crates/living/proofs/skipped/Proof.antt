@@ -1,5 +1,5 @@
 -- `skipped` meets its contract: commands are left out already, the command is no if, or its body ends before the place asked for or not.
-use mathlib.Core.Path.{sym, _∙_}
+use mathlib.Core.Path.{_∙_}
 use native.Mathlib.Omega.{arith}
 use borrow.Author.Needs.{needs}
 use Rattle.living.specs.WalkLaws.{skips-more, skips-none, skips-in, skips-body}

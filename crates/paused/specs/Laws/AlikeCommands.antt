@@ -4,9 +4,9 @@ use native.Mathlib.Omega.{arith}
 use native.Mathlib.Decide.{ℕ-discrete}
 use mathlib.Core.Path.{_≡_, refl, ap, sym, _∙_, subst}
 use mathlib.Core.Bool.{Bool, true, false}
-use mathlib.Core.Option.{Option, none, some}
+use mathlib.Core.Option.{some}
 use mathlib.Core.Logic.{_⊎_, inl, inr}
-use mathlib.Core.List.{List, [], _∷_, map, reverse, List·Memᴰ, List·Memᴰ·cases-cons}
+use mathlib.Core.List.{List, _∷_, map, reverse, List·Memᴰ}
 use lib.ListN.{length, getElem?, set, drop, length-reverse}
 use lib.Dec.{ltb}
 use borrow.Author.Tests.{lt-ltb, le-ltb}
@@ -14,24 +14,24 @@ use Rattle.types.specs.Limits.{max-instances, max-locals, first-local}
 use Rattle.types.specs.Types.{Ty, Ty.bool, Ty.ref}
 use Rattle.types.specs.Values.{Val, Val.label}
 use Rattle.program.specs.Tree.{Op, Program}
-use Rattle.commands.specs.Context.{Ctx, params-of, typ}
+use Rattle.commands.specs.Context.{params-of, typ}
 use Rattle.commands.specs.Noted.{Note, Note.n-push, Note.n-this, Note.n-not, Note.n-rd, Note.n-wr, Note.n-get, Note.n-set, Note.n-cons, Note.n-op, Note.n-if}
 use Rattle.commands.specs.Noted.{now-written}
-use Rattle.commands.specs.Tags.{Tags, Top, Asks}
+use Rattle.commands.specs.Tags.{Asks}
 use Rattle.operators.specs.Apply.{Answer, Answer.value, Answer.outside, Answer.unfit, apply}
 use Rattle.operators.specs.Ranges.{Fits as Answers}
 use Rattle.operators.specs.Laws.RangesLaws.{apply-fits}
-use Rattle.machine.specs.Published.{Env, Env.env, lookup, assign, structs, arity}
+use Rattle.machine.specs.Published.{Env.env, lookup, assign, structs, arity}
 use Rattle.machine.specs.Rules.{meet}
 use Rattle.machine.specs.Machine.{Tagged, tagged, Source.variable, Source.local, Source.result, given-by, Instance, Machine, Out, Out.next, Out.refused}
 use Rattle.machine.specs.Machine.{with-code, with-env, with-written, with-instances, with-stability, update-env, put, acting as turning, leaves-stable}
 use Rattle.machine.specs.Machine.{write-to, operated, perform, command}
-use Rattle.run.specs.Begin.{params-in, resting}
+use Rattle.run.specs.Begin.{resting}
 use Rattle.sound.specs.Invariant.{Job, written-in, Fits, Passage, Good}
 use Rattle.sound.specs.Firm.{Firm}
 use Rattle.sound.specs.Laws.ElemLaws.{some-is, at-set-same, at-set-other}
 use Rattle.sound.specs.Laws.EachLaws.{each-length}
-use Rattle.sound.specs.Laws.EnvLaws.{param-holds, param-set, local-set, other-kept, local-kept, local-holds}
+use Rattle.sound.specs.Laws.EnvLaws.{param-holds, other-kept, local-kept, local-holds}
 use Rattle.sound.specs.Laws.Keeps.{env-set}
 use Rattle.sound.specs.Laws.ValueLaws.{bool-value, label-value, ranges}
 use Rattle.sound.specs.Laws.PassageLaws.{holder-passage, first-held, ctx, here, tops, top-one, top-two, own-top, local-value, asks, next-sized}

@@ -31,9 +31,9 @@ use Rattle.paused.specs.Resumed.{resumed}
 use Rattle.paused.specs.PausedOf.{paused-of}
 use Rattle.paused.specs.Stream.{enc-paused}
 use Rattle.paused.specs.Entry.{paused-bytes, table-bytes, pause-begins, carries, Writes, Writes.paused-at-33, Writes.table-at-33, left-stream}
-use Rattle.paused.specs.Entry.{report-of, output-of, Start, call-report, call-output, call-list, from-table, from-paused, written, turns-on}
+use Rattle.paused.specs.Entry.{report-of, output-of, Start, call-report, call-output, call-list, from-table, from-paused, written}
 use Rattle.paused.specs.Entry.{pause-report, pause-output, pause-list, resume-report, resume-output, resume-list, finish-report, finish-output}
-use Rattle.paused.specs.Entry.{finish-list}
+use Rattle.paused.specs.Entry.{finish-list, pause-image, resume-image, Joined, Untouched}
 use Rattle.paused.specs.Input.{pause-order, carry-order, Roomy, Pausable, Resumable}
 use Rattle.paused.specs.Laws.Basics.{and-parts}
 use Rattle.paused.specs.Laws.AllowedTabled.{allowed-startable}
@@ -41,10 +41,6 @@ use Rattle.paused.specs.Laws.InputLaws.{tell-pause, tell-carries, pause-
 use Rattle.paused.specs.Laws.CarriedLaws.{answers-33, pauses-turns, pauses-written, pauses-accepted, carried-report, carried-output}
 
 -- Refusals -------------------------------------------------------------------------------
-
--- a refusal returns its number alone, and leaves output and list as they were
-abbrev pub Untouched : ℕ → Report → List ℕ → List ℕ → List ℕ → List ℕ → Type 0
-Untouched n r out list out′ list′ = (r ≡ report n 0 0 0 0) × (out′ ≡ out) × (list′ ≡ list)
 
 module _ (x y es out list : List ℕ) where
   pub pause-untouched : (n : ℕ) → Foremost (pause-order x y es out list) n
@@ -75,12 +71,6 @@ module _ (x y es out list : List ℕ) where
   )
 
 -- In pieces ------------------------------------------------------------------------------
-
--- two calls answer the same, the turns of the first piece added to those of the second
-pub record Joined (t : ℕ) (whole piece : Report) (whole-out piece-out whole-list piece-list : List ℕ) : Type 0 where
-  pub report : whole ≡ turns-on t piece
-  pub output : whole-out ≡ piece-out
-  pub list : whole-list ≡ piece-list
 
 -- a call that answers 33 was not refused: no number from the input is 33
 abbrev Other : ℕ → Type 0
@@ -144,28 +134,25 @@ unfolding output-of table-output-of left-stream
 table-output p (ended n t m) out = refl
 table-output p jammed out = refl
 
-module _ (x y es out₀ list₀ : List ℕ) (stops : pause-report x y es out₀ list₀ .number ≡ out-of-turns) (fs out list : List ℕ)
-    (few : length (es ++ fs) ≤ max-turns) where
-  -- the image that the first piece wrote
-  abbrev pub paused-first : List ℕ
-  paused-first = written (pause-report x y es out₀ list₀) (pause-output x y es out₀ list₀)
-
-  first-ready : (p : Program) × (rs : List Record) × (pause-begins x y es out₀ list₀ ≡ went (p, rs)) × (Pausable x y es out₀ list₀ p rs)
+module _ (x y es out₀ list₀ : List ℕ) (stops : pause-report x y es out₀ list₀ .number ≡ out-of-turns) where
+  pause-began : (p : Program) × (rs : List Record) × (pause-begins x y es out₀ list₀ ≡ went (p, rs)) × (Pausable x y es out₀ list₀ p rs)
   unfolding pause-report
-  first-ready =
+  pause-began =
       let (q, e, r) =
       not-refused (λ q. went (q .0, begin (q .0) (q .1))) paused-at-33 es (all-others (pause-order x y es out₀ list₀) refl)
       (tell-pause x y es out₀ list₀) stops in
       (q .0, q .1, e, r)
 
+module _ (x y es out₀ list₀ : List ℕ) (stops : pause-report x y es out₀ list₀ .number ≡ out-of-turns) (fs out list : List ℕ)
+    (few : length (es ++ fs) ≤ max-turns) where
   -- pausing and carrying on is the pausing run in one piece: both answer the same
   pub pause-resume : paused-bytes ≤ length out → max-commands ≤ length list
-      → Joined (pause-report x y es out₀ list₀ .turns) (pause-report x y (es ++ fs) out list) (resume-report x paused-first fs out list)
-      (pause-output x y (es ++ fs) out list) (resume-output x paused-first fs out list)
-      (pause-list x y (es ++ fs) out list) (resume-list x paused-first fs out list)
+      → Joined (pause-report x y es out₀ list₀ .turns) (pause-report x y (es ++ fs) out list) (resume-report x (pause-image x y es out₀ list₀) fs out list)
+      (pause-output x y (es ++ fs) out list) (resume-output x (pause-image x y es out₀ list₀) fs out list)
+      (pause-list x y (es ++ fs) out list) (resume-list x (pause-image x y es out₀ list₀) fs out list)
   unfolding pause-report pause-output pause-list resume-report resume-output resume-list on
   pause-resume out-room list-room =
-      let (p, rs, e, r) = first-ready in
+      let (p, rs, e, r) = pause-began x y es out₀ list₀ stops in
       let whole =
       pause-ready x y (es ++ fs) out list p rs .1
       (record { program = r .program; table = r .table; roomy = record { output-room = out-room; list-room = list-room; turns-few = few } }) in
@@ -177,12 +164,12 @@ module _ (x y es out₀ list₀ : List ℕ) (stops : pause-report x y es out₀ 
 
   -- pausing and finishing is the run in one piece
   pub pause-finish : table-bytes ≤ length out → max-commands ≤ length list
-      → Joined (pause-report x y es out₀ list₀ .turns) (run-report x y (es ++ fs) out list) (finish-report x paused-first fs out list)
-      (run-output x y (es ++ fs) out list) (finish-output x paused-first fs out list)
-      (run-list x y (es ++ fs) out list) (finish-list x paused-first fs out list)
+      → Joined (pause-report x y es out₀ list₀ .turns) (run-report x y (es ++ fs) out list) (finish-report x (pause-image x y es out₀ list₀) fs out list)
+      (run-output x y (es ++ fs) out list) (finish-output x (pause-image x y es out₀ list₀) fs out list)
+      (run-list x y (es ++ fs) out list) (finish-list x (pause-image x y es out₀ list₀) fs out list)
   unfolding pause-report pause-output call-report call-output call-list finish-report finish-output finish-list on
   pause-finish out-room list-room =
-      let (p, rs, e, r) = first-ready in
+      let (p, rs, e, r) = pause-began x y es out₀ list₀ stops in
       let (a, b, c) =
       ready-runs x y (es ++ fs) out list p rs
       (record { program = r .program; table = r .table; output-room = out-room; list-room = list-room; turns-few = few }) in
@@ -196,28 +183,27 @@ module _ (x y es out₀ list₀ : List ℕ) (stops : pause-report x y es out₀ 
 
 -- From a paused image ----------------------------------------------------------------------
 
-module _ (x y es out₀ list₀ : List ℕ) (stops : resume-report x y es out₀ list₀ .number ≡ out-of-turns) (fs out list : List ℕ)
-    (few : length (es ++ fs) ≤ max-turns) where
-  abbrev pub paused-again : List ℕ
-  paused-again = written (resume-report x y es out₀ list₀) (resume-output x y es out₀ list₀)
-
-  again-ready : (p : Program) × (q : Paused) × (carries paused-bytes x y es out₀ list₀ ≡ went (p, q)) × (Resumable paused-bytes x y es out₀ list₀ p q)
+module _ (x y es out₀ list₀ : List ℕ) (stops : resume-report x y es out₀ list₀ .number ≡ out-of-turns) where
+  pub resume-began : (p : Program) × (q : Paused) × (carries paused-bytes x y es out₀ list₀ ≡ went (p, q))
+      × (Resumable paused-bytes x y es out₀ list₀ p q)
   unfolding resume-report
-  again-ready =
+  resume-began =
       let (q, e, r) =
       not-refused (λ q. went (q .0, resumed (q .0) (q .1))) paused-at-33 es (all-others (carry-order paused-bytes x y es out₀ list₀) refl)
       (tell-carries paused-bytes x y es out₀ list₀) stops in
       (q .0, q .1, e, r)
 
+module _ (x y es out₀ list₀ : List ℕ) (stops : resume-report x y es out₀ list₀ .number ≡ out-of-turns) (fs out list : List ℕ)
+    (few : length (es ++ fs) ≤ max-turns) where
   -- whatever is written at 33 in the end
   again : (k : Writes) (bytes : ℕ) → bytes ≤ length out → max-commands ≤ length list
       → let whole = from-paused (carries bytes x y (es ++ fs) out list) in
-      let piece = from-paused (carries bytes x paused-again fs out list) in
+      let piece = from-paused (carries bytes x (resume-image x y es out₀ list₀) fs out list) in
       Joined (resume-report x y es out₀ list₀ .turns) (call-report k whole (es ++ fs)) (call-report k piece fs)
       (call-output k whole (es ++ fs) out) (call-output k piece fs out) (call-list whole list) (call-list piece list)
   unfolding resume-report resume-output on
   again k bytes out-room list-room =
-      let (p, q, e, r) = again-ready in
+      let (p, q, e, r) = resume-began x y es out₀ list₀ stops in
       let whole =
       carry-ready bytes x y (es ++ fs) out list p q .1
       (record { program = r .program; roomy = record { output-room = out-room; list-room = list-room; turns-few = few }; paused = r .paused }) in
@@ -229,16 +215,16 @@ module _ (x y es out₀ list₀ : List ℕ) (stops : resume-report x y es out₀
 
   -- carrying on twice is carrying on once
   pub resume-resume : paused-bytes ≤ length out → max-commands ≤ length list
-      → Joined (resume-report x y es out₀ list₀ .turns) (resume-report x y (es ++ fs) out list) (resume-report x paused-again fs out list)
-      (resume-output x y (es ++ fs) out list) (resume-output x paused-again fs out list)
-      (resume-list x y (es ++ fs) out list) (resume-list x paused-again fs out list)
+      → Joined (resume-report x y es out₀ list₀ .turns) (resume-report x y (es ++ fs) out list) (resume-report x (resume-image x y es out₀ list₀) fs out list)
+      (resume-output x y (es ++ fs) out list) (resume-output x (resume-image x y es out₀ list₀) fs out list)
+      (resume-list x y (es ++ fs) out list) (resume-list x (resume-image x y es out₀ list₀) fs out list)
   unfolding resume-report resume-output resume-list
   resume-resume = again paused-at-33 paused-bytes
 
   -- carrying on and finishing is finishing in one piece
   pub resume-finish : table-bytes ≤ length out → max-commands ≤ length list
-      → Joined (resume-report x y es out₀ list₀ .turns) (finish-report x y (es ++ fs) out list) (finish-report x paused-again fs out list)
-      (finish-output x y (es ++ fs) out list) (finish-output x paused-again fs out list)
-      (finish-list x y (es ++ fs) out list) (finish-list x paused-again fs out list)
+      → Joined (resume-report x y es out₀ list₀ .turns) (finish-report x y (es ++ fs) out list) (finish-report x (resume-image x y es out₀ list₀) fs out list)
+      (finish-output x y (es ++ fs) out list) (finish-output x (resume-image x y es out₀ list₀) fs out list)
+      (finish-list x y (es ++ fs) out list) (finish-list x (resume-image x y es out₀ list₀) fs out list)
   unfolding finish-report finish-output finish-list
   resume-finish = again table-at-33 table-bytes

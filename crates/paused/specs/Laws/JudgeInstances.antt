@@ -1,42 +1,34 @@
 -- The tests of one instance say where it stands (02, 'Pausing a run'; number 19).
-use Prim.Native.Nat.{ℕ, zero, suc, _+_, _-_, _<_}
+use Prim.Native.Nat.{ℕ, zero, suc, _-_, _<_}
 use native.Mathlib.Omega.{arith}
 use native.Mathlib.Decide.{ℕ-discrete}
-use native.Mathlib.Nat.{add-zero, add-suc, suc-add}
-use mathlib.Core.Path.{_≡_, refl, ap, sym, _∙_, subst}
+use mathlib.Core.Path.{_≡_, refl, ap, sym, _∙_}
 use mathlib.Core.Logic.{_↔_, _⊎_, inl, inr}
 use mathlib.Core.Bool.{Bool, true, false, _||_, false≢true}
 use mathlib.Core.Option.{Option, none, some}
 use mathlib.Core.List.{List, [], _∷_, map, List·Memᴰ, List·Memᴰ·head, List·Memᴰ·tail}
-use lib.ListN.{length, getD, getElem?}
+use lib.ListN.{length, getD}
 use lib.Seq.{drop-length}
 use lib.Dec.{ltb, eqb}
-use borrow.Author.Tests.{lt-ltb, ltb-true, eqb-true, le-leb, leb-true}
+use borrow.Author.Tests.{lt-ltb, ltb-true, eqb-true}
 use Rattle.types.specs.Limits.{step-names}
 use Rattle.types.specs.Types.{Ty, Ty.int}
-use Rattle.types.specs.Values.{default, word}
 use Rattle.program.specs.Tree.{Stmts, Step, Program}
 use Rattle.program.specs.Counts.{Few, CountsStep, Counts}
 use Rattle.commands.specs.Accepted.{Accepted}
-use Rattle.commands.specs.Context.{params-of, body-local, context, find-step, step-of}
+use Rattle.commands.specs.Context.{body-local, context, find-step, step-of}
 use Rattle.commands.specs.Noted.{Note, noted}
 use Rattle.commands.specs.Steps.{of-each}
 use Rattle.table.specs.Table.{Each}
-use Rattle.machine.specs.Published.{Sched, Sched.done, Sched.start, Sched.fixpoint, Sched.active}
-use Rattle.sound.specs.Invariant.{Job, Open, Open.open-done, Open.open-start, Open.open-fix, Open.open-active}
-use Rattle.sound.specs.Started.{Left, Left.whole as all-left, Left.past, Left.into, Left.out}
+use Rattle.sound.specs.Invariant.{Job}
 use Rattle.sound.specs.Laws.AcceptedLaws.{all-at}
-use Rattle.sound.specs.Laws.ElemLaws.{none-some, some-is}
-use Rattle.paused.specs.Place.{places, onward, left-at, first-job, whole, place-of, schedule-at, job-at, Begun}
+use Rattle.sound.specs.Laws.ElemLaws.{none-some}
 use Rattle.paused.specs.Spot.{Spot, spot}
-use Rattle.paused.specs.Paused.{Held, Paused}
+use Rattle.paused.specs.Paused.{Held}
 use Rattle.paused.specs.Standing.{living, WordOf}
-use Rattle.paused.specs.Allowed.{Holding, Allowed}
-use Rattle.paused.specs.Laws.StandsLaws.{StackedOwn, Stands, Stands.holds, Stands.rests, stands-of, allowed-stands}
+use Rattle.paused.specs.Laws.StandsLaws.{StackedOwn, Stands, Stands.holds, Stands.rests}
 use Rattle.paused.specs.Decide.{holds-type, stack-right}
-use Rattle.paused.specs.Judge.{opens, hold-types, is-empty, same-words, step-leaves, any-leaves, step-holds, stands-by, all-stand, has-position}
-use Rattle.paused.specs.Judge.{some-holds, params-hold, nulls-hold, allowed-by, is-allowed}
-use Rattle.paused.specs.Laws.PlaceLaws.{place-left, begun-left, job-left, left-open, onward-places}
+use Rattle.paused.specs.Judge.{hold-types, is-empty, same-words, step-leaves, any-leaves, step-holds, stands-by}
 use Rattle.paused.specs.Laws.SpotLaws.{spot-told, job-step}
 use Rattle.paused.specs.Laws.StepLaws.{step-level}
 use Rattle.paused.specs.Laws.Basics.{and-both, and-parts, or-left, or-right, or-cases, eqb-same}

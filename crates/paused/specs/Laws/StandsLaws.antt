@@ -25,7 +25,6 @@ use Rattle.paused.specs.Paused.{Held, Paused}
 use Rattle.paused.specs.Standing.{living, WordOf, Stacked, AfterThis}
 use Rattle.paused.specs.Decide.{after-this}
 use Rattle.paused.specs.Allowed.{commands-of, At, Holding, Allowed}
-use Rattle.paused.specs.Laws.RiseLaws.{Up}
 use Rattle.paused.specs.Laws.StepLaws.{step-level}
 use Rattle.paused.specs.Laws.SpotLaws.{spot-told, job-step}
 use Rattle.paused.specs.Laws.FreshLaws.{way-fresh, end-stale, this-exact}

@@ -1,5 +1,6 @@
 -- For each phrase of 02's sentence ('Pausing a run') a state that is accepted and one that is refused with 19, which differ in that phrase alone
--- (docs/PAUSED.md, 'One image for each phrase'), facts by computation. All are states of Q in the middle of a step inside a Fix.
+-- (docs/PAUSED.md, 'One image for each phrase'), facts by computation. All are states of Q in the middle of a step inside a Fix; Calls has those that
+-- need another schedule.
 use Prim.Native.Nat.{ℕ}
 use mathlib.Core.Path.{_≡_, refl}
 use mathlib.Core.Bool.{Bool, true, false}
@@ -164,13 +165,15 @@ pub row-own : (Accepted Q-state) × (Refused (with-3 (deck params-3 (some 12) (2
 unfolding judged Q
 row-own = (refl, refl)
 
--- "living locals .. hold their types": another value; a Bool of 2, no local
+-- "living locals .. hold their types": another value; a Bool of 2, no local, a local where none lives, one without commands
 pub row-locals :
     (Accepted (with-3 (deck params-3 (some 12) (3 ∷ 7 ∷ []) (0 ∷ []))))
     × (Refused (with-3 (deck params-3 (some 12) (3 ∷ 7 ∷ []) (2 ∷ []))))
     × (Refused (with-3 (deck params-3 (some 12) (3 ∷ 7 ∷ []) [])))
+    × (Refused (with-2 (deck params-2 (some 6) (1 ∷ 4 ∷ []) (1 ∷ []))))
+    × (Refused (with-2 (deck params-2 none [] (1 ∷ []))))
 unfolding judged Q
-row-locals = (refl, refl, refl)
+row-locals = (refl, refl, refl, refl, refl)
 
 -- ".. and parameters hold their types": another value; a Bool of 2
 pub row-params :

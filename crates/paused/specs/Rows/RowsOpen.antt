@@ -15,6 +15,7 @@ use Rattle.run.specs.Run.{Outcome, Outcome.stopped as ended, Outcome.jammed, ru
 use Rattle.run.specs.Entry.{no-number}
 use Rattle.run.specs.EntryStreams.{Summary, summary, begins-streams}
 use Rattle.run.specs.Rows.RowsOpen.{running}
+use Rattle.paused.specs.Paused.{has-position}
 use Rattle.paused.specs.Rise.{rise, left-by, shape}
 use Rattle.paused.specs.Place.{places, onward, left-at, first-job, job-at}
 use Rattle.paused.specs.Spot.{step-spot, spot, spot-by, step-notes, position-left}
@@ -23,7 +24,7 @@ use Rattle.paused.specs.Resumed.{struct-in, restored, valued, localed, i
 use Rattle.paused.specs.PausedOf.{word-in, at-spot, by-job, by-code, paused-of}
 use Rattle.paused.specs.Sets.{lowest, grown, passed, ahead, numbers-at, at-first, may-leave}
 use Rattle.paused.specs.Decide.{is-label, holds-type, above-labels, this-at, after-this, on-top, own-right, stack-right}
-use Rattle.paused.specs.Judge.{opens, hold-types, is-empty, same-words, step-leaves, any-leaves, step-holds, stands-by, all-stand, has-position}
+use Rattle.paused.specs.Judge.{opens, hold-types, is-empty, same-words, step-leaves, any-leaves, step-holds, stands-by, all-stand}
 use Rattle.paused.specs.Judge.{some-holds, params-hold, nulls-hold, allowed-by, is-allowed}
 use Rattle.paused.specs.Stream.{enc-entry, enc-position, enc-held, enc-paused, position-of, read-entry, read-position, read-parts}
 use Rattle.paused.specs.Stream.{read-held, read-count, read-instances, read-paused}

@@ -2,9 +2,10 @@
 -- invariant: a run that has come to where the loop begins has come to where it stands. The measure is the turns that are left.
 use native.Mathlib.Omega.{arith}
 use Prim.Native.Nat.{ℕ, _+_, _*_, _<_}
-use mathlib.Core.Path.{_≡_, refl, _∙_}
+use mathlib.Core.Path.{_≡_, refl, sym, _∙_}
 use mathlib.Core.List.{List}
-use lib.ListN.{length, length-replicate}
+use lib.ListN.{length, take, length-replicate}
+use lib.Seq.{length-take-le}
 use borrow.Author.Needs.{needs}
 use Rattle.types.specs.Limits.{step-names, max-commands, schedule-items}
 use Rattle.program.specs.Tree.{Program}
@@ -12,16 +13,16 @@ use Rattle.machine.specs.Machine.{Machine}
 use Rattle.layout.specs.State.{state-of}
 use Rattle.compile.specs.Spans.{span-places}
 use Rattle.interpreter.specs.Ready.{Ready}
-use Rattle.seating.specs.Seated.{Seated}
-use Rattle.run_images.specs.RunLaws.{seated-preparable, seated-ready}
+use Rattle.run_images.specs.RunLaws.{opens-preparable, admitted-ready, seated-ready}
 use Rattle.audala_trace.specs.Pages.{Lies}
+use Rattle.audala_trace.specs.Telling.{Starts}
 use Rattle.audala_trace.specs.PlayWays.{turns-left, Goes, goes-takeable, refused-goes, taken-standing, taken-goes, first-goes, goes-ran}
 use Rattle.audala_trace.specs.PlayWays.{first-standing, first-named, first-lies, told-named, told-lies, told-less, refused-less}
 use Rattle.audala_trace.proofs.telling.play.Statement.{statement}
 use Rattle.audala_trace.proofs.telling.play.Tie as tie
 
 abbrev Inv-loop : tie.InvT-loop
-Inv-loop s counts heads₀ cells₀ turns out₀ list spans items next₀ heads cells out next =
+Inv-loop s rows heads₀ cells₀ turns out₀ k counts list spans items next₀ heads cells out next =
     (length heads ≡ length heads₀)
     × (length cells ≡ length cells₀)
     × (length out ≡ length out₀)
@@ -31,17 +32,23 @@ Inv-loop s counts heads₀ cells₀ turns out₀ list spans items next₀ heads 
     → Goes p m turns counts list items spans next heads cells out)
 
 abbrev μ-loop : tie.MeasureT-loop
-μ-loop s counts heads₀ cells₀ turns out₀ list spans items next₀ heads cells out next = turns-left turns next
+μ-loop s rows heads₀ cells₀ turns out₀ k counts list spans items next₀ heads cells out next = turns-left turns next
 
 -- the places that proofs look back to
-abbrev start : tie.After-items Inv-loop μ-loop → tie.Start Inv-loop μ-loop
-start c = let at-known = c .before .before .before in let at-heads = at-known .before .before .before in at-heads .before .before .before
+abbrev start : tie.After-struct-known Inv-loop μ-loop → tie.Start Inv-loop μ-loop
+start c = let at-opened = c .before .before .before in let at-out = at-opened .before .before .before in at-out .before .before .before .before
 
-abbrev begin : tie.After-program Inv-loop μ-loop → tie.Start Inv-loop μ-loop
-begin c = start (c .before)
+abbrev at-known : tie.After-items Inv-loop μ-loop → tie.After-struct-known Inv-loop μ-loop
+at-known c = c .before .before .before .before
 
-abbrev at-program : tie.After-first Inv-loop μ-loop → tie.After-program Inv-loop μ-loop
-at-program c = c .before .before .before .before
+abbrev at-program : tie.After-program2 Inv-loop μ-loop → tie.After-program Inv-loop μ-loop
+at-program c = let at-seat = c .before .before in at-seat .before .before .before
+
+abbrev begin : tie.After-program2 Inv-loop μ-loop → tie.Start Inv-loop μ-loop
+begin c = start (at-known (at-program c .before))
+
+abbrev at-list : tie.After-first Inv-loop μ-loop → tie.After-program2 Inv-loop μ-loop
+at-list c = c .before .before
 
 abbrev at-first : tie.After-settle Inv-loop μ-loop → tie.After-first Inv-loop μ-loop
 at-first c = let at-spans = c .before .before .before in at-spans .before .before
@@ -52,7 +59,7 @@ at-settle c = let at-out = c .before .before in at-out .before .before .before
 abbrev in-loop : tie.After-turn Inv-loop μ-loop → tie.In-loop Inv-loop μ-loop
 in-loop c = let at-arg = c .before .before .before in at-arg .before .before .before
 
-abbrev at-turn : tie.After-struct-known Inv-loop μ-loop → tie.After-turn Inv-loop μ-loop
+abbrev at-turn : tie.After-struct-known3 Inv-loop μ-loop → tie.After-turn Inv-loop μ-loop
 at-turn c = let at-cells = c .before .before .before .before in at-cells .before .before .before
 
 abbrev at-then : tie.After-settle2 Inv-loop μ-loop → tie.Then1 Inv-loop μ-loop
@@ -61,47 +68,66 @@ at-then c = let at-spans = c .before .before .before in at-spans .before .before
 abbrev at-settle2 : tie.After-told-at2 Inv-loop μ-loop → tie.After-settle2 Inv-loop μ-loop
 at-settle2 c = let at-out = c .before .before in at-out .before .before .before
 
--- what was prepared
-abbrev list-of : tie.After-program Inv-loop μ-loop → List ℕ
-list-of c = c .program .last .1 .1 .1 .0
+-- The program ----------------------------------------------------------------------------
 
-abbrev spans-of : tie.After-program Inv-loop μ-loop → List ℕ
-spans-of c = c .program .last .1 .1 .1 .1 .0
+array-share-prefix-counts : tie.Need-array-share-prefix-counts Inv-loop μ-loop
+array-share-prefix-counts c = let o = start c .pre .0 .2 .opens in omega (arith, o .few, o .wide .0)
 
-abbrev items-of : tie.After-program Inv-loop μ-loop → List ℕ
-items-of c = c .program .last .1 .1 .1 .1 .1 .0
-
--- as long as what was lent
-list-length : (c : tie.After-program Inv-loop μ-loop) → length (list-of c) ≡ max-commands
-list-length c = c .program .kept .1 .1 .1 .0 ∙ simp length-replicate
-
-spans-length : (c : tie.After-program Inv-loop μ-loop) → length (spans-of c) ≡ span-places
-spans-length c = c .program .kept .1 .1 .1 .1 .0 ∙ simp length-replicate
-
-items-length : (c : tie.After-program Inv-loop μ-loop) → length (items-of c) ≡ 2 * schedule-items + 1
-items-length c = c .program .kept .1 .1 .1 .1 .1 .0 ∙ simp length-replicate
-
-abbrev SeatedHere : tie.After-program Inv-loop μ-loop → Program → Machine → Type 0
-SeatedHere c p m =
-    let a = begin c .args in Seated (a .s .now) (a .counts .now) (a .seat) (a .heads .now) (a .cells .now) p m
-
-ready : (c : tie.After-program Inv-loop μ-loop) (p : Program) (m : Machine) → SeatedHere c p m
-    → Ready p (begin c .args .counts .now) (list-of c) (items-of c) (spans-of c) m
-    (state-of (begin c .args .seat .numbers) (begin c .args .heads .now) (begin c .args .cells .now))
-ready c p m w =
-    seated-ready w _ (simp length-replicate (omega arith)) _ _ _ _ (c .program .ensures)
-    (c .program .kept .1 .1 .1 .1 .0 ∙ simp length-replicate (omega arith))
+slice-aggregate-cs : tie.Need-slice-aggregate-cs Inv-loop μ-loop
+slice-aggregate-cs c = sym (length-take-le _ _ (array-share-prefix-counts (c .before)))
 
 program-requires : tie.Need-program-requires Inv-loop μ-loop
 program-requires c κs =
-    let s = start c in
-    seated-preparable (s .pre .0 .2) _ (simp length-replicate (omega arith)) _ _ (simp length-replicate (omega arith)) (simp length-replicate (omega arith))
+    opens-preparable (start (at-known c) .pre .0 .2 .opens) _ _ (simp length-replicate (omega arith)) (simp length-replicate (omega arith))
+
+program-requires-2 : tie.Need-program-requires-2 Inv-loop μ-loop
+program-requires-2 c κs =
+    let d = let at-seat = c .before in at-seat .before .before .before in
+    admitted-ready (start (at-known (d .before)) .pre .0 .2 .seated .admitted) _ (simp length-replicate (omega arith))
+
+-- what was prepared
+abbrev counts-of : tie.After-program2 Inv-loop μ-loop → List ℕ
+counts-of c = let o = begin c .args .start .opened in take (o .loaded .structs) (o .counts)
+
+abbrev list-of : tie.After-program2 Inv-loop μ-loop → List ℕ
+list-of c = c .program2 .last .1 .1 .1 .0
+
+abbrev spans-of : tie.After-program2 Inv-loop μ-loop → List ℕ
+spans-of c = at-program c .program .last .1 .1 .1 .1 .1 .0
+
+abbrev items-of : tie.After-program2 Inv-loop μ-loop → List ℕ
+items-of c = at-program c .program .last .1 .1 .1 .1 .1 .1 .0
+
+-- as long as what was lent
+list-length : (c : tie.After-program2 Inv-loop μ-loop) → length (list-of c) ≡ max-commands
+list-length c = c .program2 .kept .1 .1 .1 .0 ∙ simp length-replicate
+
+spans-length : (c : tie.After-program2 Inv-loop μ-loop) → length (spans-of c) ≡ span-places
+spans-length c = at-program c .program .kept .1 .1 .1 .1 .1 .0 ∙ simp length-replicate
+
+items-length : (c : tie.After-program2 Inv-loop μ-loop) → length (items-of c) ≡ 2 * schedule-items + 1
+items-length c = at-program c .program .kept .1 .1 .1 .1 .1 .1 .0 ∙ simp length-replicate
+
+abbrev StartsHere : tie.After-program2 Inv-loop μ-loop → Program → Machine → Type 0
+StartsHere c p m =
+    let a = begin c .args in Starts (a .s .now) (a .rows .now) (a .start) (a .heads .now) (a .cells .now) p m
+
+ready : (c : tie.After-program2 Inv-loop μ-loop) (p : Program) (m : Machine) → StartsHere c p m
+    → Ready p (counts-of c) (list-of c) (items-of c) (spans-of c) m
+    (state-of (begin c .args .start .seat .numbers) (begin c .args .heads .now) (begin c .args .cells .now))
+ready c p m w = seated-ready (w .seated) _ _ (at-program c .program .ensures) (c .program2 .ensures) (spans-length c)
+
+slice-aggregate-settle : tie.Need-slice-aggregate-settle Inv-loop μ-loop
+slice-aggregate-settle c = omega (arith, items-length (at-list (c .before)))
+
+slice-aggregate-settle-2 : tie.Need-slice-aggregate-settle-2 Inv-loop μ-loop
+slice-aggregate-settle-2 c = omega (arith, spans-length (at-list (c .before .before)))
 
 settle-requires : tie.Need-settle-requires Inv-loop μ-loop
 settle-requires c κs =
     let at-spans = c .before .before in
     let f = at-spans .before .before in
-    let d = at-program f in
+    let d = at-list f in
     let s = begin d in
     let e = f .first .ensures in
     ((first-standing e (ready d (s .pre .0 .0) (s .pre .0 .1) (s .pre .0 .2)), first-named e), first-lies e (s .args .out .now) (s .pre .1))
@@ -109,30 +135,30 @@ settle-requires c κs =
 loop-holds : tie.Need-loop-holds Inv-loop μ-loop
 loop-holds c =
     let t = at-settle c in
-    let es = begin (at-program (at-first t)) .args .turns .now in
+    let es = begin (at-list (at-first t)) .args .turns .now in
     let x = t .settle .result in
     let e = c .told-at .ensures in
     let named = told-named es x (c .told-at .result) e (t .settle .ensures .named) in
     (refl, refl, refl, named, told-lies es x (c .told-at .result) e (t .settle .last .1 .1 .1 .1 .0) (t .settle .ensures .lies), λ p m g. g)
 
 -- the run where the loop stands
-abbrev prepared : tie.At-loop Inv-loop μ-loop → tie.After-program Inv-loop μ-loop
-prepared c = at-program (at-first (at-settle (c .before)))
+abbrev prepared : tie.At-loop Inv-loop μ-loop → tie.After-program2 Inv-loop μ-loop
+prepared c = at-list (at-first (at-settle (c .before)))
 
 abbrev begun : tie.At-loop Inv-loop μ-loop → tie.Start Inv-loop μ-loop
 begun c = begin (prepared c)
 
-goes : (c : tie.At-loop Inv-loop μ-loop) (p : Program) (m : Machine) → SeatedHere (prepared c) p m
-    → Goes p m (begun c .args .turns .now) (begun c .args .counts .now) (list-of (prepared c)) (items-of (prepared c)) (spans-of (prepared c))
+goes : (c : tie.At-loop Inv-loop μ-loop) (p : Program) (m : Machine) → StartsHere (prepared c) p m
+    → Goes p m (begun c .args .turns .now) (counts-of (prepared c)) (list-of (prepared c)) (items-of (prepared c)) (spans-of (prepared c))
     (c .loop .next) (c .loop .heads) (c .loop .cells) (c .loop .out)
 goes c p m w =
     let t = at-settle (c .before) in
     let f = at-first t in
-    let d = at-program f in
+    let d = at-list f in
     let a = begin d .args in
     c .loop .inv .5 p m
     (rw (c .before .told-at .ensures)
-    (first-goes p m (a .turns .now) (a .counts .now) (list-of d) (items-of d) (spans-of d) (f .first .ensures) (ready d p m w) (t .settle .ensures)))
+    (first-goes p m (a .turns .now) (counts-of d) (list-of d) (items-of d) (spans-of d) (f .first .ensures) (ready d p m w) (t .settle .ensures)))
 
 abbrev the-program : tie.At-loop Inv-loop μ-loop → Program
 the-program c = begun c .pre .0 .0
@@ -235,7 +261,8 @@ returns c =
 pub play-spec : {M : Type 1} → statement M
 play-spec =
     tie.close
-    (tie.spec Inv-loop μ-loop (λ c. search needs) (λ c. search needs) (λ c. search needs) program-requires (λ c κs. search needs) (λ c. search needs)
-    (λ c. search needs) settle-requires (λ c κs. search needs) loop-holds slice-aggregate-turn slice-aggregate-turn-2 turn-requires slice-aggregate-settle-3
+    (tie.spec Inv-loop μ-loop (λ c. search needs) array-share-prefix-counts slice-aggregate-cs (λ c. search needs) (λ c. search needs) (λ c. search needs)
+    program-requires (λ c. search needs) program-requires-2 (λ c κs. search needs) slice-aggregate-settle slice-aggregate-settle-2
+    settle-requires (λ c κs. search needs) loop-holds slice-aggregate-turn slice-aggregate-turn-2 turn-requires slice-aggregate-settle-3
     slice-aggregate-settle-4 settle-requires-2 (λ c κs. search needs) loop-less loop-again loop-less-2 loop-again-2 (λ c. search needs) (λ c. search needs)
     (λ c. search needs) returns)

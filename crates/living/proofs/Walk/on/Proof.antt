@@ -1,6 +1,6 @@
 -- `Walk::on` meets its contract: the command is left out, is no wr, writes a parameter, or writes a local, whose mark it sets.
 use Prim.Native.Nat.{_-_}
-use mathlib.Core.Path.{ap, sym, _∙_}
+use mathlib.Core.Path.{ap, _∙_}
 use native.Mathlib.Omega.{arith}
 use lib.ListN.{set}
 use borrow.Author.Needs.{needs}

@@ -1,0 +1,1 @@
+// The reader of paused images (02, 'Pausing a run').
