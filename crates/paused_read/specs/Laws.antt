@@ -7,3 +7,4 @@ pub mod HeadLaws
 pub mod ScannedLaws
 pub mod ImageScan
 pub mod ImageRead
+pub mod StartedLaws

@@ -1,3 +1,4 @@
 pub mod Scan
 pub mod Heads
+pub mod Started
 pub mod Laws

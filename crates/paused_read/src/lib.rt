@@ -3,6 +3,7 @@
 
 mod heads;
 mod places;
+mod started;
 
 use blocks::Opened;
 use places::Next;
