@@ -7,4 +7,5 @@ pub mod HeadLaws
 pub mod ScannedLaws
 pub mod ImageScan
 pub mod ImageRead
+pub mod RecordsLaws
 pub mod StartedLaws

@@ -1,4 +1,5 @@
 pub mod Scan
 pub mod Heads
+pub mod Records
 pub mod Started
 pub mod Laws

@@ -4,8 +4,8 @@ use native.Mathlib.Omega.{arith}
 use mathlib.Core.Path.{_≡_, refl, ap, ap₂, sym, _∙_}
 use mathlib.Core.Bool.{Bool, true, false}
 use mathlib.Core.List.{List, [], _∷_, _++_, append-assoc}
-use lib.ListN.{length, getD, length-append, List·getD-append}
-use lib.Seq.{getD-append-add}
+use lib.ListN.{length, getD, drop, length-append, List·getD-append}
+use lib.Seq.{getD-append-add, drop-at}
 use Rattle.little_endian.specs.Numbers.{pair-at}
 use Rattle.program.specs.Tree.{Program}
 use Rattle.program.specs.Encoding.{enc-word, flat}
@@ -15,7 +15,7 @@ use Rattle.paused.specs.Paused.{Paused}
 use Rattle.paused.specs.Allowed.{CountedPaused}
 use Rattle.paused.specs.Stream.{enc-entry, enc-held, enc-paused}
 use Rattle.paused_read.specs.declared.Head.{Head}
-use Rattle.paused_read.specs.Scan.{entries-place, from-place, count-place, entries-number}
+use Rattle.paused_read.specs.Scan.{entries-place, from-place, count-place, instances-place, entries-number}
 use Rattle.paused_read.specs.Heads.{head-at, head-of}
 
 -- Entries ----------------------------------------------------------------------------------
@@ -111,3 +111,13 @@ module _ {p : Program} (q : Paused) (c : CountedPaused p q) where
   pub head-read : head-at (enc-paused q) ≡ head-of q
   unfolding enc-paused
   head-read = same-head stable-is from-is count-is
+
+  -- the instances come after it
+  pub instances-there : drop (instances-place (length (q .entries))) (enc-paused q) ≡ places
+  unfolding enc-paused enc-word
+  instances-there =
+      let n = fronts-long in
+      ap (drop (instances-place (length (q .entries)))) (sym (append-assoc front (enc-word count-bytes (q .from)) after)
+      ∙ sym (append-assoc fronts (enc-word count-bytes (length (q .instances))) places))
+      ∙ drop-at (fronts ++ enc-word count-bytes (length (q .instances))) places (instances-place (length (q .entries)))
+      (length-append fronts (enc-word count-bytes (length (q .instances))) ∙ omega arith)
