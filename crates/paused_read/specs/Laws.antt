@@ -8,4 +8,5 @@ pub mod ScannedLaws
 pub mod ImageScan
 pub mod ImageRead
 pub mod RecordsLaws
+pub mod RecordsWays
 pub mod StartedLaws

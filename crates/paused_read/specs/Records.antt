@@ -1,13 +1,15 @@
 -- The instances of a paused stream by the bytes of their records (02, 'Pausing a run'; docs/PAUSED.md, 'The stream'). `counts` has the number of parameters
 -- of each struct. Of the stream of a paused state they are its instances (law `instances-here`).
 use Prim.Native.Nat.{ℕ, zero, suc, _+_, _*_}
+use mathlib.Core.Path.{_≡_}
+use mathlib.Core.Option.{some}
 use mathlib.Core.List.{List, [], _∷_}
 use lib.ListN.{getD}
 use Rattle.little_endian.specs.Numbers.{word-at}
 use Rattle.table.specs.Table.{value-bytes}
 use Rattle.paused.specs.Paused.{Held}
 use Rattle.paused.specs.Stream.{position-of}
-use Rattle.paused_read.specs.Scan.{stack-place, entries-of, instances-of, instances-place}
+use Rattle.paused_read.specs.Scan.{stack-place, held-next, helds-next, entries-of, instances-of, instances-place}
 
 module _ (s : List ℕ) where
   -- n words from a place on
@@ -48,3 +50,12 @@ module _ (counts s : List ℕ) where
   -- all
   abbrev pub all-here : List Held
   all-here = helds-here (instances-of s) (instances-place (entries-of s))
+
+-- Records that are there -------------------------------------------------------------------
+
+-- a record at a place, and n in a row: what the pass over the stream found (`is-stream`)
+abbrev pub Recorded : List ℕ → List ℕ → ℕ → Type 0
+Recorded counts s at = (m : ℕ) × (held-next counts s at ≡ some m)
+
+abbrev pub Records : List ℕ → List ℕ → ℕ → ℕ → Type 0
+Records counts s n at = (m : ℕ) × (helds-next counts s n at ≡ some m)

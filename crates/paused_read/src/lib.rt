@@ -3,6 +3,7 @@
 
 mod heads;
 mod places;
+mod records;
 mod started;
 
 use blocks::Opened;

@@ -37,7 +37,7 @@ fn words(s: &[u8], most: usize, at: usize) -> Next
 }
 
 // The place after the record at a place: struct byte, parameters, position, stack, locals.
-fn held(s: &[u8], counts: &[u8], at: usize) -> Next
+pub(crate) fn held(s: &[u8], counts: &[u8], at: usize) -> Next
     requires { ⌜ (length (now s) ≤ paused-bytes) × (at ≤ paused-bytes) ⌝ }
     ensures { λ r. ⌜ r ≡ next-told (held-next (now (counts .entry)) (now (s .entry)) at) ⌝ }
 {
