@@ -10,3 +10,5 @@ pub mod ImageRead
 pub mod RecordsLaws
 pub mod RecordsWays
 pub mod StartedLaws
+pub mod HeadAllowedLaws
+pub mod ValuesWays

@@ -2,4 +2,6 @@ pub mod Scan
 pub mod Heads
 pub mod Records
 pub mod Started
+pub mod HeadAllowed
+pub mod Values
 pub mod Laws

@@ -5,16 +5,19 @@ mod heads;
 mod places;
 mod records;
 mod started;
+mod values;
 
 use blocks::Opened;
 use places::Next;
 ghost use mathlib.Core.Path.{_≡_};
-ghost use Prim.Native.Nat.{_*_, _≤_};
+ghost use Prim.Native.Nat.{_*_, _≤_, _<_};
 ghost use lib.ListN.{length};
 ghost use Rattle.block.specs.Block.{payload-size};
 ghost use Rattle.blocks.specs.Images.{fault, stream, opened, opened-into};
+ghost use Rattle.program.specs.Reader.{byte-end};
 ghost use Rattle.paused.specs.Entry.{paused-bytes};
 ghost use Rattle.paused_read.specs.Heads.{scanned, image-blocks, image-scanned};
+ghost use Rattle.paused_read.specs.HeadAllowed.{head-allowed};
 
 // The head of a paused stream: the place of the schedule left, how many stability entries there are and the entries as bits with the innermost lowest, the
 // label after the one that acted last, how many instances there are, and the place of the first of them in the stream.
@@ -67,4 +70,16 @@ pub fn scan_image(image: &[u8], counts: &[u8], buffer: &mut [u8]) -> Scan
         return Scan::NoStream;
     };
     scan_stream(&buffer[..n], counts)
+}
+
+// Whether the head of a stream is that of an allowed state: the label that acted last exists, a step call leaves the place of the schedule laid flat, and there is
+// one entry for each Fix that is open there.
+pub fn head_allowed(h: Head, items: &[usize]) -> bool
+    requires { ⌜ h .place < byte-end ⌝ }
+    ensures { λ r. ⌜ r ≡ head-allowed (now (items .entry)) h ⌝ }
+{
+    if h.count < h.from {
+        return false;
+    }
+    started::place_right(items, h.place, h.fixes)
 }

@@ -21,6 +21,10 @@ use Rattle.paused_memory.specs.Places.{EndsAt, open-after, opens-at}
 use Rattle.paused_memory.specs.Laws.PlaceAt.{at-last, code-started, started-code, opens-codes}
 use Rattle.paused_read.specs.Started.{no-end, starts-before, place-right, entries-by, place-allowed}
 
+pub and-false : (t : Bool) → t && false ≡ false
+and-false true = refl
+and-false false = refl
+
 -- The end ----------------------------------------------------------------------------------
 
 module _ (items : List ℕ) where
@@ -29,10 +33,6 @@ module _ (items : List ℕ) where
   no-end-on a e f =
       let k : a + 1 ≡ suc a = omega arith in
       rw k (ap₂ (λ x y. x && not y) e (sym (ne-eqb (getD items a 0) end-code f)))
-
-  and-false : (t : Bool) → t && false ≡ false
-  and-false true = refl
-  and-false false = refl
 
   pub end-before : (a : ℕ) → getD items a 0 ≡ end-code → (n : ℕ) → a < n → false ≡ no-end items n
   unfolding no-end
