@@ -14,6 +14,11 @@ use Rattle.layout.specs.Layout.{head, struct-of}
 use Rattle.paused.specs.Paused.{Held}
 use Rattle.paused.specs.Resumed.{struct-in}
 use Rattle.paused.specs.Decide.{is-label, holds-type}
+use Rattle.paused.specs.Judge.{hold-types}
+use Rattle.little_endian.specs.Numbers.{word-at}
+use Rattle.table.specs.Table.{value-bytes}
+use Rattle.table_read.specs.Params.{types-from}
+use Rattle.paused_read.specs.Records.{words-in}
 use Rattle.paused_read.specs.Values.{Shown}
 
 module _ (hs : List Held) (t w : ℕ) where
@@ -58,3 +63,44 @@ module _ (hs : List Held) (t w : ℕ) where
         let m = shown .many in
         ap₂ eqb (e ∙ shown .struct w h) f
         ∙ sym (label-type (type-of t) refers ∙ ap (λ b. b && eqb (struct-in hs w) (type-struct (type-of t))) (lt-ltb w (length hs) (omega arith)))
+
+-- Words in a row ---------------------------------------------------------------------------
+
+-- m words from at on, whose types are from a place on
+abbrev pub RowHolds : List Held → List ℕ → List ℕ → ℕ → ℕ → ℕ → Bool
+RowHolds hs types s from at m = hold-types hs (types-from types from m) (words-in s at m)
+
+module _ (types s : List ℕ) (from at m : ℕ) where
+  -- those from x on
+  abbrev pub rest-holds : List Held → ℕ → Bool
+  rest-holds hs x = RowHolds hs types s (from + x) (at + value-bytes * x) (m - x)
+
+  pub row-all : (hs : List Held) → RowHolds hs types s from at m ≡ rest-holds hs 0
+  row-all hs =
+      let a : from ≡ from + 0 = omega arith in
+      let b : at ≡ at + value-bytes * 0 = omega arith in
+      let c : m ≡ m - 0 = omega arith in
+      ap (λ k. RowHolds hs types s k at m) a ∙ ap₂ (λ i k. RowHolds hs types s (from + 0) i k) b c
+
+  module _ (hs : List Held) (x : ℕ) (h : x < m) where
+    abbrev here : Bool
+    here = holds-type hs (type-of (getD types (from + x) 0)) (word-at s (at + value-bytes * x))
+
+    one : rest-holds hs x ≡ here && rest-holds hs (x + 1)
+    unfolding types-from words-in hold-types
+    one =
+        let a : suc (from + x) ≡ from + (x + 1) = omega arith in
+        let b : at + value-bytes * x + value-bytes ≡ at + value-bytes * (x + 1) = omega arith in
+        let c : m - x ≡ suc (m - (x + 1)) = omega arith in
+        ap (RowHolds hs types s (from + x) (at + value-bytes * x)) c
+        ∙ ap₂ (λ i k. here && RowHolds hs types s i k (m - (x + 1))) a b
+
+    pub row-on : true ≡ here → rest-holds hs x ≡ rest-holds hs (x + 1)
+    row-on e = one ∙ ap (λ t. t && rest-holds hs (x + 1)) (sym e)
+
+    pub row-wrong : false ≡ here → rest-holds hs x ≡ false
+    row-wrong e = one ∙ ap (λ t. t && rest-holds hs (x + 1)) (sym e)
+
+  pub row-none : (hs : List Held) (x : ℕ) → m ≤ x → rest-holds hs x ≡ true
+  unfolding types-from words-in hold-types
+  row-none hs x h = let c : m - x ≡ 0 = omega arith in ap (RowHolds hs types s (from + x) (at + value-bytes * x)) c
