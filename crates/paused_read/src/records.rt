@@ -2,15 +2,20 @@
 // each struct.
 use crate::places;
 use crate::places::Next;
+use crate::values;
 use little_endian::index;
 ghost use mathlib.Core.Path.{_≡_};
-ghost use Prim.Native.Nat.{_<_, _≤_};
+ghost use mathlib.Core.List.{List};
+ghost use Prim.Native.Nat.{_*_, _<_, _≤_};
 ghost use lib.ListN.{length, getD};
 ghost use Rattle.program.specs.Reader.{byte-end};
 ghost use Rattle.paused.specs.Entry.{paused-bytes};
-ghost use Rattle.paused.specs.Paused.{has-position};
+ghost use Rattle.layout.specs.Layout.{head-size};
+ghost use Rattle.table_read.specs.Params.{Tables};
+ghost use Rattle.paused.specs.Paused.{Held, has-position};
 ghost use Rattle.paused.specs.Judge.{some-holds};
 ghost use Rattle.paused_read.specs.Records.{position-place, held-here, helds-here, Recorded, Records};
+ghost use Rattle.paused_read.specs.Values.{Shown, params-right};
 
 // The position's byte of an instance without commands.
 const NO_POSITION: usize = 255;
@@ -54,4 +59,23 @@ pub(crate) fn some_holds(s: &[u8], counts: &[u8], n: usize, at: usize) -> bool
         l += 1;
     }
     false
+}
+
+// Whether the parameters of the record at a place hold their types, where memory has the structs of n instances.
+fn record_params(heads: &[u16], n: usize, types: &[u8], s: &[u8], counts: &[u8], at: usize) -> bool
+    requires { ⌜ (head-size * n ≤ length (now heads)) × Tables (now counts) (now types) ⌝ }
+    requires { ⌜ (length (now s) ≤ paused-bytes) × (at ≤ length (now s)) × Recorded (now counts) (now s) at ⌝ }
+    ensures { λ r. ⌜ ((hs : List Held) → Shown (now (heads .entry)) n hs
+        → r ≡ params-right hs (now (counts .entry)) (now (types .entry)) (held-here (now (counts .entry)) (now (s .entry)) at)) ⌝ }
+{
+    let k = index(s[at]);
+    values::words_hold(
+        heads,
+        n,
+        types,
+        types::MAX_PARAMS * k,
+        s,
+        at + 1,
+        index(counts[k]),
+    )
 }

@@ -7,7 +7,7 @@ use mathlib.Core.List.{List, [], _∷_}
 use lib.ListN.{length, getD}
 use lib.Dec.{ltb, eqb}
 use borrow.Author.Tests.{lt-ltb, le-ltb, ne-eqb}
-use Rattle.types.specs.Limits.{nat-end}
+use Rattle.types.specs.Limits.{nat-end, max-params}
 use Rattle.types.specs.Types.{Ty, Ty.int, Ty.nat, Ty.bool, Ty.ref, struct-code, type-of}
 use Rattle.types.specs.TypeBytes.{is-ref, struct-of as type-struct}
 use Rattle.layout.specs.Layout.{head, struct-of}
@@ -18,8 +18,8 @@ use Rattle.paused.specs.Judge.{hold-types}
 use Rattle.little_endian.specs.Numbers.{word-at}
 use Rattle.table.specs.Table.{value-bytes}
 use Rattle.table_read.specs.Params.{types-from}
-use Rattle.paused_read.specs.Records.{words-in}
-use Rattle.paused_read.specs.Values.{Shown}
+use Rattle.paused_read.specs.Records.{words-in, held-here}
+use Rattle.paused_read.specs.Values.{Shown, params-right}
 
 module _ (hs : List Held) (t w : ℕ) where
   pub holds-bool : t ≡ 2 → ltb w 2 ≡ holds-type hs (type-of t) w
@@ -104,3 +104,12 @@ module _ (types s : List ℕ) (from at m : ℕ) where
   pub row-none : (hs : List Held) (x : ℕ) → m ≤ x → rest-holds hs x ≡ true
   unfolding types-from words-in hold-types
   row-none hs x h = let c : m - x ≡ 0 = omega arith in ap (RowHolds hs types s (from + x) (at + value-bytes * x)) c
+
+-- The parameters of a record ---------------------------------------------------------------
+
+-- by its struct and its number of parameters
+pub params-told : (hs : List Held) (counts types s : List ℕ) (at k : ℕ) → k ≡ getD s at 0 → (c : ℕ) → c ≡ getD counts k 0
+    → RowHolds hs types s (max-params * k) (at + 1) c ≡ params-right hs counts types (held-here counts s at)
+params-told hs counts types s at k e c f =
+    let g : c ≡ getD counts (getD s at 0) 0 = f ∙ ap (λ x. getD counts x 0) e in
+    ap₂ (λ x y. RowHolds hs types s (max-params * x) (at + 1) y) e g
