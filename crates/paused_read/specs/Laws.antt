@@ -12,3 +12,4 @@ pub mod RecordsWays
 pub mod StartedLaws
 pub mod HeadAllowedLaws
 pub mod ValuesWays
+pub mod ParamsWays

@@ -8,12 +8,13 @@ ghost use mathlib.Core.Path.{_≡_};
 ghost use mathlib.Core.List.{List};
 ghost use Prim.Native.Nat.{_*_, _<_, _≤_};
 ghost use lib.ListN.{length, getD};
+ghost use Rattle.program.specs.Tree.{Program};
 ghost use Rattle.program.specs.Reader.{byte-end};
 ghost use Rattle.paused.specs.Entry.{paused-bytes};
 ghost use Rattle.layout.specs.Layout.{head-size};
-ghost use Rattle.table_read.specs.Params.{Tables};
+ghost use Rattle.table_read.specs.Params.{Tables, lists-of};
 ghost use Rattle.paused.specs.Paused.{Held, has-position};
-ghost use Rattle.paused.specs.Judge.{some-holds};
+ghost use Rattle.paused.specs.Judge.{some-holds, params-hold};
 ghost use Rattle.paused_read.specs.Records.{position-place, held-here, helds-here, Recorded, Records};
 ghost use Rattle.paused_read.specs.Values.{Shown, params-right};
 
@@ -78,4 +79,27 @@ fn record_params(heads: &[u16], n: usize, types: &[u8], s: &[u8], counts: &[u8],
         at + 1,
         index(counts[k]),
     )
+}
+
+// Whether the parameters of n records hold their types, where memory has the structs of their instances.
+pub(crate) fn params_hold(heads: &[u16], types: &[u8], s: &[u8], counts: &[u8], n: usize, at: usize) -> bool
+    requires { ⌜ (head-size * n ≤ length (now heads)) × Tables (now counts) (now types) ⌝ }
+    requires { ⌜ (length (now s) ≤ paused-bytes) × (at ≤ length (now s)) × Records (now counts) (now s) n at ⌝ }
+    ensures { λ r. ⌜ ((p : Program) → lists-of (now (counts .entry)) (now (types .entry)) ≡ p .params → (hs : List Held) → Shown (now (heads .entry)) n hs
+        → r ≡ params-hold p hs (helds-here (now (counts .entry)) (now (s .entry)) n at)) ⌝ }
+{
+    let mut l = 0;
+    let mut next = at;
+    while l < n {
+        let r = places::held(s, counts, next);
+        let Next::At(m) = r else {
+            return false;
+        };
+        if !record_params(heads, n, types, s, counts, next) {
+            return false;
+        }
+        next = m;
+        l += 1;
+    }
+    true
 }
