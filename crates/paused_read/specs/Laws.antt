@@ -13,3 +13,4 @@ pub mod StartedLaws
 pub mod HeadAllowedLaws
 pub mod ValuesWays
 pub mod ParamsWays
+pub mod StructsWays

@@ -4,4 +4,5 @@ pub mod Records
 pub mod Started
 pub mod HeadAllowed
 pub mod Values
+pub mod Structs
 pub mod Laws

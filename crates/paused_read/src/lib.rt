@@ -5,6 +5,7 @@ mod heads;
 mod places;
 mod records;
 mod started;
+mod structs;
 mod values;
 
 use blocks::Opened;
