@@ -14,3 +14,4 @@ pub mod HeadAllowedLaws
 pub mod ValuesWays
 pub mod ParamsWays
 pub mod StructsWays
+pub mod StructsShown
