@@ -1,5 +1,5 @@
-// The reader of paused images (02, 'Pausing a run'; docs/PAUSED.md). First a pass over the stream says whether it is that of a paused state (18), and what its head
-// holds; the state is judged (19) and seated in memory after that.
+// The reader of paused images (02, 'Pausing a run'; docs/PAUSED.md). First a pass over the stream says whether it is that of a paused state (18), and what
+// its head holds; the state is judged (19) and seated in memory after that.
 
 mod heads;
 mod places;
@@ -73,8 +73,8 @@ pub fn scan_image(image: &[u8], counts: &[u8], buffer: &mut [u8]) -> Scan
     scan_stream(&buffer[..n], counts)
 }
 
-// Whether the head of a stream is that of an allowed state: the label that acted last exists, a step call leaves the place of the schedule laid flat, and there is
-// one entry for each Fix that is open there.
+// Whether the head of a stream is that of an allowed state: the label that acted last exists, a step call leaves the place of the schedule laid flat, and
+// there is one entry for each Fix that is open there.
 pub fn head_allowed(h: Head, items: &[usize]) -> bool
     requires { ⌜ h .place < byte-end ⌝ }
     ensures { λ r. ⌜ r ≡ head-allowed (now (items .entry)) h ⌝ }

@@ -82,7 +82,14 @@ fn record_params(heads: &[u16], n: usize, types: &[u8], s: &[u8], counts: &[u8],
 }
 
 // Whether the parameters of n records hold their types, where memory has the structs of their instances.
-pub(crate) fn params_hold(heads: &[u16], types: &[u8], s: &[u8], counts: &[u8], n: usize, at: usize) -> bool
+pub(crate) fn params_hold(
+    heads: &[u16],
+    types: &[u8],
+    s: &[u8],
+    counts: &[u8],
+    n: usize,
+    at: usize,
+) -> bool
     requires { ⌜ (head-size * n ≤ length (now heads)) × Tables (now counts) (now types) ⌝ }
     requires { ⌜ (length (now s) ≤ paused-bytes) × (at ≤ length (now s)) × Records (now counts) (now s) n at ⌝ }
     ensures { λ r. ⌜ ((p : Program) → lists-of (now (counts .entry)) (now (types .entry)) ≡ p .params → (hs : List Held) → Shown (now (heads .entry)) n hs

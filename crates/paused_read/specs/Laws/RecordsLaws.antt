@@ -31,8 +31,7 @@ use Rattle.paused_read.specs.Laws.HeadLaws.{head-read, instances-there}
 module _ (s : List ℕ) where
   byte-there : (at b : ℕ) (r : List ℕ) → drop at s ≡ b ∷ r → (getD s at 0 ≡ b) × (drop (at + 1) s ≡ r)
   byte-there at b r e =
-      let z : at + 0 ≡ at = omega arith in
-      (
+      let z : at + 0 ≡ at = omega arith in (
         ap (λ k. getD s k 0) (sym z) ∙ sym (getD-drop at s 0 0) ∙ ap (λ l. getD l 0 0) e,
         sym (drop-drop 1 at s) ∙ ap (drop 1) e,
       )
@@ -101,8 +100,7 @@ module _ (p : Program) (s : List ℕ) where
       let (o, e₃) = byte-there s (position-place counts s at) (enc-position (h .position)) _ (ap (λ k. drop k s) there ∙ e₂) in
       let on : position-place counts s at + 1 ≡ stack-place counts s at = omega arith in
       let (ws, e₄) = counted-there s (h .stack) (stack-place counts s at) _ (c .stack .1) (ap (λ k. drop k s) (sym on) ∙ e₃) in
-      let (ls, e₅) = counted-there s (h .locals) (locals-place counts s at) r (c .locals .1) e₄ in
-      (
+      let (ls, e₅) = counted-there s (h .locals) (locals-place counts s at) r (c .locals .1) e₄ in (
         same-held a (ap (words-in s (at + 1)) n ∙ ps) (ap position-of o ∙ position-back (h .position) (c .position)) ws ls,
         e₅,
       )

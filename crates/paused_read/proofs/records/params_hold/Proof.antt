@@ -61,8 +61,8 @@ loop-again c =
     let m = at-r .r .given .0 .0 in let e = sym (at-r .r .given .1) ∙ at-held .held .ensures in (
       walked-on (args .counts .now) (args .s .now) (args .n) (loop .l) (loop .next) (loop .inv .0) (in-loop .loop-test .taken) m e,
       params-on (args .heads .now) (args .types .now) (args .counts .now) (args .s .now) (args .n) (args .at) (loop .l) (loop .next) (loop .inv .0)
-      (loop .inv .1) (in-loop .loop-test .taken) m e
-      (λ hs shown. sym (not-false _ (c .if1 .left)) ∙ at-params .record-params .ensures hs shown),
+          (loop .inv .1) (in-loop .loop-test .taken) m e
+          (λ hs shown. sym (not-false _ (c .if1 .left)) ∙ at-params .record-params .ensures hs shown),
     )
 
 returns-3 : tie.Need-returns-3 Inv-loop μ-loop

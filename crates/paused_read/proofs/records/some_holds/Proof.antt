@@ -58,7 +58,7 @@ loop-again c =
     let m = at-r .r .given .0 .0 in let e = sym (at-r .r .given .1) ∙ at-held .held .ensures in (
       walked-on (args .counts .now) (args .s .now) (args .n) (loop .l) (loop .next) (loop .inv .0) (in-loop .loop-test .taken) m e,
       holds-on (args .counts .now) (args .s .now) (args .n) (args .at) (loop .l) (loop .next) (loop .inv .0) (loop .inv .1) (in-loop .loop-test .taken) m e
-      (sym (c .if1 .left) ∙ at-holds .holds .ensures),
+          (sym (c .if1 .left) ∙ at-holds .holds .ensures),
     )
 
 returns-3 : tie.Need-returns-3 Inv-loop μ-loop

@@ -51,13 +51,14 @@ seat-requires c κs =
 
 loop-again : tie.Need-loop-again Inv-loop μ-loop
 loop-again c =
-    let at-seat = c .before .before in let at-index = at-seat .before in let at-r = at-index .before .before .before .before in let at-held = at-r .before .before in let in-loop = at-held .before in
+    let at-seat = c .before .before in let at-index = at-seat .before in let at-r = at-index .before .before .before .before in
+    let at-held = at-r .before .before in let in-loop = at-held .before in
     let at-loop = in-loop .before in let args = at-loop .before .before .before .before .args in let loop = at-loop .loop in
     let m = at-r .r .given .0 .0 in let e = sym (at-r .r .given .1) ∙ at-held .held .ensures in (
       walked-on (args .counts .now) (args .s .now) (args .n) (loop .l) (loop .next) (loop .inv .0) (in-loop .loop-test .taken) m e,
       at-seat .seat .kept .0 ∙ loop .inv .1,
       structs-on (args .counts .now) (args .s .now) (args .heads .now) (args .n) (args .at) (loop .heads) (loop .l) (loop .next) (loop .inv .2)
-      (in-loop .loop-test .taken) m e (at-index .index .result) (at-index .index .ensures .0) (at-seat .seat .last .0) (at-seat .seat .ensures),
+          (in-loop .loop-test .taken) m e (at-index .index .result) (at-index .index .ensures .0) (at-seat .seat .last .0) (at-seat .seat .ensures),
     )
 
 returns-2 : tie.Need-returns-2 Inv-loop μ-loop

@@ -38,12 +38,11 @@ returns c = λ hs shown.
 loop-again : tie.Need-loop-again Inv-loop μ-loop
 loop-again c =
     let at-holds = c .before in let at-word = at-holds .before .before in let in-loop = at-word .before in let at-loop = in-loop .before in
-    let args = at-loop .before .before .before .before .args in let x = at-loop .loop .x in
-    (
+    let args = at-loop .before .before .before .before .args in let x = at-loop .loop .x in (
       omega arith,
       λ hs shown.
-      let right = sym (not-false _ (c .if1 .left)) ∙ at-holds .holds-type .ensures hs shown ∙ ap (holds-type hs _) (at-word .word-at .ensures .0) in
-      at-loop .loop .inv .1 hs shown ∙ row-on (args .types .now) (args .s .now) (args .from) (args .at) (args .m) hs x (in-loop .loop-test .taken) right,
+          let right = sym (not-false _ (c .if1 .left)) ∙ at-holds .holds-type .ensures hs shown ∙ ap (holds-type hs _) (at-word .word-at .ensures .0) in
+          at-loop .loop .inv .1 hs shown ∙ row-on (args .types .now) (args .s .now) (args .from) (args .at) (args .m) hs x (in-loop .loop-test .taken) right,
     )
 
 returns-2 : tie.Need-returns-2 Inv-loop μ-loop
