@@ -14,4 +14,4 @@ pub mod exports;
 pub mod generate;
 pub mod tables;
 
-pub use engine::{CheckAnswer, Command, RunAnswer, check, listing, run};
+pub use engine::{CheckAnswer, Command, RunAnswer, check, finish, listing, pause, resume, run};

@@ -54,8 +54,7 @@ impl Stack {
         (self.values[height - 2], self.values[height - 1])
     }
 
-    /// The values from below, for tests that look at a whole state.
-    #[cfg(test)]
+    /// The values from below.
     pub fn values(&self) -> &[u32] {
         &self.values[..usize::from(self.height)]
     }

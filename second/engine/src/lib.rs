@@ -1,4 +1,5 @@
-//! An AuDaLa engine after 01 (all of it) and 000, sections 3 and 4.
+//! An AuDaLa engine after 01 (all of it), 000, sections 3 and 4, and what 02
+//! changes of runs; 02 §7 in the layout of docs/PAUSED.md.
 #![forbid(unsafe_code)]
 
 mod blocks;
@@ -11,6 +12,7 @@ mod limits;
 mod listing;
 mod machine;
 mod operators;
+mod paused;
 mod program;
 mod reader;
 mod refusal;
@@ -22,7 +24,7 @@ mod typing;
 
 pub use blocks::{BlockFault, stream, write};
 pub use command::Command;
-pub use engine::{CheckAnswer, PartAnswer, RunAnswer, check, part, run};
+pub use engine::{CheckAnswer, PartAnswer, RunAnswer, check, finish, part, pause, resume, run};
 pub use listing::listing;
 pub use operators::Operator;
 pub use types::Type;

@@ -13,11 +13,6 @@ pub struct Stability {
 }
 
 impl Stability {
-    fn push_stable(&mut self) {
-        self.entries |= 1 << self.count;
-        self.count += 1;
-    }
-
     /// Ends a Fix whose entry on top is stable; sets it stable otherwise.
     fn ends(&mut self) -> bool {
         let top = 1 << (self.count - 1);
@@ -31,10 +26,24 @@ impl Stability {
         stable
     }
 
-    /// The entries from below, for tests that look at a whole state.
-    #[cfg(test)]
-    pub fn entries(&self) -> impl Iterator<Item = u32> {
-        (0..self.count).map(|at| u32::from(self.entries >> at & 1))
+    fn push_stable(&mut self) {
+        self.entries |= 1 << self.count;
+        self.count += 1;
+    }
+
+    /// The stack of these entries, from below.
+    fn of(entries: impl Iterator<Item = bool>) -> Stability {
+        let mut stability = Stability::default();
+        for stable in entries {
+            stability.entries |= u8::from(stable) << stability.count;
+            stability.count += 1;
+        }
+        stability
+    }
+
+    /// The entries from below.
+    pub fn entries(&self) -> impl DoubleEndedIterator<Item = bool> {
+        (0..self.count).map(|at| self.entries >> at & 1 != 0)
     }
 
     /// A parameter changed or an instance is new: every entry becomes false.
@@ -60,6 +69,17 @@ pub struct Schedule<'p> {
 impl<'p> Schedule<'p> {
     pub fn new(moves: &'p [Move]) -> Self {
         Schedule { moves, position: 0, stability: Stability::default() }
+    }
+
+    /// How many places come before what is left.
+    pub fn position(&self) -> usize {
+        self.position
+    }
+
+    /// Goes on at this place with these entries, from below.
+    pub fn go_to(&mut self, place: usize, entries: impl Iterator<Item = bool>) {
+        self.position = place;
+        self.stability = Stability::of(entries);
     }
 
     /// One move, made when no instance holds commands.
