@@ -1,10 +1,11 @@
 #!/usr/bin/env bash
-# Compares engines by cases; the format stands in docs/CASES.md.
+# Compares engines by cases; docs/CASES.md has the format.
 #
 #   compare.sh                           the committed cases and answers are
 #                                        what the package makes now, and the
-#                                        .runs files of examples/texts say
-#                                        what the second engine gives
+#                                        .runs files of examples/texts and
+#                                        examples/tutorial say what the second
+#                                        engine gives
 #   compare.sh write                     writes the cases and answers anew
 #   compare.sh many SEED COUNT OTHER...  the edges and COUNT seeded cases, and
 #                                        as many texts, in chunks, answered by
@@ -17,6 +18,7 @@ here=$(cd "$(dirname "$0")" && pwd)
 # the proved engine's program, which rt hands the same cases
 program=$here/../crates/audala_cases
 texts=$here/../examples/texts
+tutorial=$here/../examples/tutorial
 committed=(cases.bin expected.txt texts.bin texts.txt examples.bin examples.txt exports.bin exports.txt)
 chunk=2000
 
@@ -40,7 +42,7 @@ four() {
 # each text of examples/ as a case, with the output that an image needs
 example_texts() {
     local text
-    for text in "$here"/../examples/*.audala "$texts"/*.audala "$texts"/bare/*.audala; do
+    for text in "$here"/../examples/*.audala "$tutorial"/*.audala "$texts"/*.audala "$texts"/bare/*.audala; do
         printf '\x03'
         four 32768
         four "$(wc -c <"$text")"
@@ -48,10 +50,10 @@ example_texts() {
     done
 }
 
-# the check and the runs of each text of examples/texts as cases
+# the check and the runs of each text of examples/texts and examples/tutorial as cases
 example_runs() {
     local text
-    for text in "$texts"/*.audala; do
+    for text in "$texts"/*.audala "$tutorial"/*.audala; do
         "$second" example "${text%.audala}"
     done
 }
@@ -74,7 +76,7 @@ make_committed() {
     "$second" exports answers <"$work/exports.bin" >"$work/exports.txt"
 }
 
-# What the proved engine's program is handed, and its answers: the cases, behind them the texts and the examples' runs. The cases of exports are
+# What the proved engine's program is handed, and its answers: the cases, after them the texts and the examples' runs. The cases of exports are
 # answered through the C header alone (tools/answer.sh).
 cases() {
     cat "$here/cases/cases.bin" "$here/cases/texts.bin" "$here/cases/examples.bin"
@@ -99,7 +101,7 @@ as_committed() {
 # Each .runs file says what the second engine gives: numbers, turns taken and last tables.
 runs_as_written() {
     local text name
-    for text in "$texts"/*.audala; do
+    for text in "$texts"/*.audala "$tutorial"/*.audala; do
         name=${text%.audala}
         "$second" runs "$name" >"$work/runs"
         if ! diff "$name.runs" "$work/runs" >&2; then
