@@ -1,6 +1,7 @@
 // A table image as text, and text as a table image (docs/FORMAT.md, 'Tables as text'). Program, table and text are in files that arguments name.
 use blocks::Read;
 use blocks::Written;
+use directory::rows::ROWS;
 use load::Load;
 use numbers::Scanned;
 use read_params::ParamsRead;
@@ -54,10 +55,11 @@ fn accepted(program: &[u8], table: &[u8]) -> bool {
     let mut stream = [0u8; seating::SHORT];
     let mut counts = [0u8; types::MAX_STRUCTS];
     let mut types = [0u8; types::MAX_STRUCTS * types::MAX_PARAMS];
-    let mut rows = [0u8; STREAM];
+    let mut rows = [0u16; ROWS];
+    let mut buffer = [0u8; STREAM];
     let mut heads = [0u16; layout::HEADS];
     let mut cells = [0u64; layout::CELLS];
-    let loaded = seating::admit(program, &mut stream, &mut counts, &mut types);
+    let loaded = seating::admit(program, &mut stream, &mut counts, &mut types, &mut rows);
     let Load::Program(p) = loaded else {
         return told(load::refusal(loaded));
     };
@@ -65,7 +67,7 @@ fn accepted(program: &[u8], table: &[u8]) -> bool {
     let end = types::MAX_PARAMS * k;
     let cs = &counts[..k];
     let ts = &types[..end];
-    let seated = seating::seat_table(p.at, cs, ts, table, &mut rows, &mut heads, &mut cells);
+    let seated = seating::seat_table(p.at, cs, ts, table, &mut buffer, &mut heads, &mut cells);
     let SeatRead::Taken(_) = seated else {
         return told(seating::refusal(seated));
     };

@@ -3,28 +3,23 @@ use Prim.Native.Nat.{ℕ, _<_, _≤_}
 use native.Mathlib.Omega.{arith}
 use mathlib.Core.Path.{_≡_, refl, ap, _∙_}
 use mathlib.Core.List.{List}
-use lib.ListN.{length, length-map}
+use lib.ListN.{length}
 use borrow.Author.Tests.{lt-ltb}
-use Rattle.types.specs.Limits.{max-structs, max-commands}
+use Rattle.types.specs.Limits.{max-commands}
 use Rattle.types.specs.Numbers.{no-room}
 use Rattle.types.specs.Stages.{Stage.went as accepted, Stage.stopped as refused, on, asked}
 use Rattle.program.specs.Tree.{Program}
-use Rattle.commands.specs.Bounds.{program-size, Within}
-use Rattle.commands.specs.ProgramWords.{structs-words, program-words}
-use Rattle.commands.specs.ProgramWordsLaws.{program-length}
+use Rattle.commands.specs.Bounds.{Within}
+use Rattle.commands.specs.ProgramWords.{structs-words}
 use Rattle.commands.specs.Laws.NumbersLaws.{number-accepted}
-use Rattle.read_params.specs.ParamsWays.{from-start}
-use Rattle.emit.specs.Written.{structs-at}
-use Rattle.emit_steps.specs.declared.Place.{Place}
-use Rattle.emit_steps.specs.Emitted.{from-place, stand, Fits, Emitted, EmittedProgram}
-use Rattle.emit_steps.specs.ProgramLaws.{program-fits}
-use Rattle.directory.specs.Directory.{structs-rows}
-use Rattle.directory.specs.Rows.{directory-places}
+use Rattle.emit.specs.Written.{Ready, structs-at}
+use Rattle.emit_steps.specs.Emitted.{EmittedProgram}
+use Rattle.emit_steps.specs.ProgramLaws.{program-ready}
 use Rattle.verdict.specs.Verdict.{Checked, checked, listed, Verdict as Judgement, refusal, approval, checks, verdict-of, list-of, check-verdict, check-list}
 use Rattle.verdict.specs.VerdictLaws.{checks-room}
 use Rattle.load.specs.declared.Loaded.{Loaded}
 use Rattle.load.specs.Load.{Admitted}
-use Rattle.load.specs.LoadLaws.{LoadedAs, accepted-source, structs-are, structs-few}
+use Rattle.load.specs.LoadLaws.{LoadedAs, accepted-source}
 use Rattle.checker.specs.Answer.{answer, approved}
 
 -- Refusals -----------------------------------------------------------------------------
@@ -63,26 +58,12 @@ module _ (x : List ℕ) (z : Loaded) (l : LoadedAs x z) where
   within : Within p
   within = number-accepted p .0 (accepted-source x p (l .accepts) .numbered) .0
 
-  module _ (s ar : List ℕ) (a : Admitted s ar (z .at) p) where
-    -- it has few structs
-    pub counts-few : length ar ≤ max-structs
-    counts-few = rw (a .counted) (omega (arith, length-map (p .params) length, structs-are x z l, structs-few x z l))
+  -- its commands may be written, and then the list is the program's
+  module _ (s ar : List ℕ) (a : Admitted s ar (z .at) p) (list : List ℕ) where
+    pub writable : max-commands ≤ length list → Ready structs-words (structs-at ar s (length ar) (z .at)) list 0
+    unfolding Within
+    writable room = program-ready ar s (z .at) p (a .end) (a .reads) (a .counted) (a .place) list (within .1) (omega (arith, within .1))
 
-    module _ (list : List ℕ) (room : max-commands ≤ length list) where
-      enough : program-size p ≤ max-commands
-      unfolding Within
-      enough = within .1
-
-      -- the list and the directory may be written
-      pub fits : (rows : List ℕ) → directory-places ≤ length rows
-          → Fits structs-words (structs-rows 0) (structs-at ar s (length ar) (z .at)) (stand (from-place (z .at)) list rows)
-      fits rows wide = program-fits ar s (z .at) p (a .end) (a .reads) (a .counted) (a .place) list rows enough (omega (arith, enough)) wide
-
-      -- and what is written is the program's
-      module _ (r : Place) (list′ rows′ : List ℕ) (w : EmittedProgram ar s (z .at) list r list′ rows′) where
-        pub emitted : Emitted ar s (z .at) p list r list′ rows′
-        emitted = w p (a .end) (a .reads) (a .counted) (a .place)
-
-        pub wrote : list′ ≡ listed p list
-        unfolding listed
-        wrote = emitted .words ∙ from-start list (program-words p) (omega (arith, program-length p, enough))
+    pub wrote : {list′ : List ℕ} → EmittedProgram ar s (z .at) list list′ → list′ ≡ listed p list
+    unfolding listed
+    wrote w = w p (a .end) (a .reads) (a .counted) (a .place)

@@ -61,6 +61,6 @@ pub fn check(image: &[u8], list: &mut [u64]) -> Verdict
     }
     let n = p.length;
     let k = p.structs as usize;
-    emit_steps::program(&stream[..n], &counts[..k], p.at, list, &mut rows);
+    emit_steps::program(&stream[..n], &counts[..k], p.at, list);
     accepted(p)
 }

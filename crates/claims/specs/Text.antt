@@ -16,13 +16,16 @@ use Rattle.commands.specs.Bounds.{Within}
 use Rattle.verdict.specs.Verdict.{checked, refusal, check-verdict}
 use Rattle.tokens.specs.Tokens.{Token}
 use Rattle.tokens.specs.Lexing.{Lexed}
+use Rattle.tokens.specs.Straying.{Strays}
 use Rattle.tokens.specs.Laws.LexingLaws.{lexed-one as lexed-law}
+use Rattle.tokens.specs.Laws.StrayLaws.{no-tokens-exactly as straying-law}
 use Rattle.syntax.specs.Syntax.{Exp, Exp.binary, Program as Derivation}
 use Rattle.syntax.specs.Yield.{yield}
 use Rattle.syntax.specs.Bracketing.{level, comparisons, Fits, Derives}
 use Rattle.syntax.specs.Bracketed.{BracketedProgram, NoComparison}
 use Rattle.syntax.specs.Laws.CompleteLaws.{one-derivation as derivation-law}
 use Rattle.syntax.specs.Laws.BracketLaws.{brackets-kept as brackets-law, no-two-comparisons as comparisons-law}
+use Rattle.syntax.specs.SumRows.{compared, two-compared as compared-law}
 use Rattle.meaning.specs.Holds.{max-stream}
 use Rattle.meaning.specs.Means.{Means}
 use Rattle.meaning.specs.Nesting.{Shallow}
@@ -40,6 +43,10 @@ use Rattle.source.specs.Laws.CheckingLaws.{text-checked as checked-law, text-or
 pub lexed-one : {x : List ℕ} {ts us : List Token} → Lexed x ts → Lexed x us → ts ≡ us
 lexed-one a b = lexed-law a b
 
+-- and in none exactly where it strays: "an unclosed comment, or a character sequence that is no token", after gaps and longest tokens;
+pub no-tokens-exactly : (x : List ℕ) → ((ts : List Token) → Lexed x ts → ⊥) ↔ Strays x
+no-tokens-exactly x = straying-law x
+
 -- tokens have one derivation at most,
 pub one-derivation : (ts : List Token) (c d : Derivation) → Derives ts c → Derives ts d → c ≡ d
 one-derivation ts c d a b = derivation-law ts c d a b
@@ -47,6 +54,10 @@ one-derivation ts c d a b = derivation-law ts c d a b
 -- "Two comparisons in a row without brackets give 16" (02 §2): the operands of a bare comparison are none
 pub no-two-comparisons : (l : ℕ) (o : Op) (a b : Exp) → level o ≡ comparisons → Fits l (binary o a b) → (NoComparison a) × (NoComparison b)
 no-two-comparisons l o a b q f = comparisons-law l o a b q f
+
+-- whatever the two are: tokens with a o b p c have no derivation
+pub two-compared : (o p : Op) → level o ≡ comparisons → level p ≡ comparisons → (d : Derivation) → Derives (compared o p) d → ⊥
+two-compared o p e f d h = compared-law o p e f d h
 
 -- "and then has one reading": one derivation of the text,
 pub derived-one : {x : List ℕ} {c d : Derivation} → Derived x c → Derived x d → c ≡ d

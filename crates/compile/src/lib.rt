@@ -1,9 +1,8 @@
-// What a run prepares of an accepted program (01, 'Table and turns'): its commands in the lent list, where each step's commands stand
-// there, and the schedule laid flat.
+// What a run prepares of an accepted program before a machine is seated (01, 'Table and turns'): where the commands of each step will stand in the
+// list, and the schedule laid flat.
 pub mod items;
 pub mod spans;
 
-use directory::rows::ROWS;
 ghost use mathlib.Core.Path.{_≡_};
 ghost use Prim.Native.Nat.{_<_};
 ghost use lib.ListN.{length, set};
@@ -16,24 +15,20 @@ pub(crate) fn store(out: &mut [usize], k: usize, v: usize)
     out[k] = v;
 }
 
-// A program whose parameter lists, of ar parameters each, end at a place: one walk over its steps, a loop over
-// their rows, and a walk over the schedule behind them.
+// A program of so many structs, whose schedule begins at a place and whose steps have n rows: a loop over the rows, and a walk over the schedule.
 // The span of a step that its struct has not is free, save that its end lies before its beginning.
 pub fn program(
     s: &[u8],
-    ar: &[u8],
     at: usize,
-    list: &mut [u64],
+    structs: usize,
+    rows: &[u16],
+    n: usize,
     spans: &mut [u16],
     codes: &mut [usize],
 )
-    requires { ⌜ Preparable (now s) (now ar) at (now list) (now spans) (now codes) ⌝ }
-    ensures { λ _. ⌜ PreparedProgram (now (s .entry)) (now (list .entry)) (now (list .exit)) (now (spans .exit)) (now (codes .entry)) (now (codes .exit)) ⌝ }
+    requires { ⌜ Preparable (now s) at structs (now rows) n (now spans) (now codes) ⌝ }
+    ensures { λ _. ⌜ PreparedProgram (now (s .entry)) (now (spans .exit)) (now (codes .entry)) (now (codes .exit)) ⌝ }
 {
-    let mut rows = [0u16; ROWS];
-    let p = emit_steps::program(s, ar, at, list, &mut rows);
-    let next = p.next;
-    let n = p.rows;
-    spans::of_rows(&rows, n, ar.len(), spans);
-    items::schedule(s, next, codes);
+    spans::of_rows(rows, n, structs, spans);
+    items::schedule(s, at, codes);
 }

@@ -1,4 +1,3 @@
 pub mod Emitted
-pub mod EmittedLaws
 pub mod StepLaws
 pub mod ProgramLaws

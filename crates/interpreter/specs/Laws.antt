@@ -1,3 +1,4 @@
+pub mod DueLaws
 pub mod MovingLaws
 pub mod CountLaws
 pub mod VisitWays

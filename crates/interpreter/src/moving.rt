@@ -14,7 +14,7 @@ pub fn settle(machine: Machine, items: &[usize], spans: &[u16], heads: &mut [u16
         (state-of (r .numbers) (now (heads .exit)) cells)) ⌝ }
 {
     let mut next = machine;
-    while next.numbers.holding == 0 {
+    while !layout::due(next.numbers) {
         let place = next.numbers.place;
         if items[place] == codes::END {
             return next;

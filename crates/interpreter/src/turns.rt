@@ -49,8 +49,7 @@ fn resting(machine: Machine, taken: usize, actor: Record, number: u8) -> Going
 fn going_at(machine: Machine, taken: usize, actor: Record, turns: &[u8]) -> Going
     ensures { λ r. ⌜ r ≡ going-at (now (turns .entry)) machine taken actor ⌝ }
 {
-    let n = machine.numbers.holding;
-    if n == 0 {
+    if !layout::due(machine.numbers) {
         return resting(machine, taken, actor, machine.numbers.number);
     }
     if turns.len() <= taken {
@@ -62,7 +61,7 @@ fn going_at(machine: Machine, taken: usize, actor: Record, turns: &[u8]) -> Goin
         taken,
         number: 0,
         due: true,
-        pick: e % n,
+        pick: e % machine.numbers.holding,
         actor,
     }
 }

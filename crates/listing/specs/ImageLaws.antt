@@ -4,21 +4,17 @@ use native.Mathlib.Omega.{arith}
 use mathlib.Core.Path.{_≡_, refl, sym, ap, _∙_}
 use mathlib.Core.List.{List, [], _∷_, _++_}
 use lib.ListN.{length}
-use lib.Seq.{sets-eq, length-sets}
 use Rattle.types.specs.Limits.{max-commands}
 use Rattle.types.specs.Stages.{Stage.stopped as refused}
 use Rattle.program.specs.Tree.{Program}
 use Rattle.commands.specs.Bounds.{Within}
 use Rattle.commands.specs.Laws.NumbersLaws.{number-accepted}
 use Rattle.directory.specs.Rows.{directory-places, rows-from}
-use Rattle.directory.specs.DirectoryLaws.{directory-few}
-use Rattle.commands.specs.ProgramWords.{program-words}
-use Rattle.commands.specs.ProgramWordsLaws.{program-length}
-use Rattle.emit_steps.specs.declared.Place.{Place}
-use Rattle.emit_steps.specs.Emitted.{Emitted}
-use Rattle.verdict.specs.Verdict.{checked}
+use Rattle.directory.specs.DirectoryLaws.{directory-count, directory-few}
+use Rattle.verdict.specs.Verdict.{checked, listed}
 use Rattle.load.specs.declared.Loaded.{Loaded}
-use Rattle.load.specs.LoadLaws.{LoadedAs, Source, accepted-source, loaded-counts}
+use Rattle.load.specs.Load.{RowsHeld}
+use Rattle.load.specs.LoadLaws.{LoadedAs, Source, accepted-source, loaded-counts, rows-are}
 use Rattle.text.specs.Listing.{row}
 use Rattle.step_lines.specs.Lines.{program-lines}
 use Rattle.step_lines.specs.RowLines.{line-most, rows-lines, Listable}
@@ -48,21 +44,18 @@ module _ (x : List ℕ) (z : Loaded) (l : LoadedAs x z) where
       ap listing (l .accepts)
       ∙ ap (λ (y : Loaded). row audala (y .structs ∷ y .steps ∷ y .commands ∷ y .depth ∷ []) ++ program-lines p) (sym (l .is))
 
-  -- off what was written of it
-  module _ {s ar : List ℕ} {at : ℕ} {list : List ℕ} (room : max-commands ≤ length list) {r : Place} {list′ rows′ : List ℕ}
-      (w : Emitted ar s at p list r list′ rows′) where
-    pub accepted-lines : rows-lines list′ (rows-from rows′ 0 (r .rows)) ≡ program-lines p
-    unfolding Within
-    accepted-lines =
-        let h : 0 + length (program-words p) ≤ length list = omega (arith, program-length p, within .1) in
-        rw (w .rows) (directory-lines p (loaded-counts x z l) list′ _ (w .words ∙ sets-eq (program-words p) list 0 h))
+  -- off its rows, and a list that begins with its commands
+  module _ (rows : List ℕ) (rowed : RowsHeld (checked x) rows) (list : List ℕ) {list′ : List ℕ} (is : list′ ≡ listed p list) where
+    pub accepted-lines : rows-lines list′ (rows-from rows 0 (z .steps)) ≡ program-lines p
+    unfolding listed
+    accepted-lines = rw (rows-are x z l rows rowed) (directory-lines p (loaded-counts x z l) list′ _ is)
 
     -- there is room for its lines
-    pub accepted-listable : (out : List ℕ) (k : ℕ) → length rows′ ≡ directory-places → k + line-most * max-commands ≤ length out
-        → Listable rows′ (r .rows) list′ out k
+    pub accepted-listable : (out : List ℕ) (k : ℕ) → length rows ≡ directory-places → max-commands ≤ length list′
+        → k + line-most * max-commands ≤ length out → Listable rows (z .steps) list′ out k
     unfolding Within
-    accepted-listable out k wide h =
-        directory-listable p (loaded-counts x z l) rows′ (r .rows) list′ out k (w .rows)
-        (omega (arith, w .count, directory-few p (loaded-counts x z l)))
-        (omega (arith, within .1, ap length (w .words) ∙ length-sets list 0 (program-words p)))
+    accepted-listable out k wide long h =
+        directory-listable p (loaded-counts x z l) rows (z .steps) list′ out k (rows-are x z l rows rowed)
+        (omega (arith, ap (λ (y : Loaded). y .steps) (l .is), directory-count p, directory-few p (loaded-counts x z l)))
+        (omega (arith, within .1, long))
         (omega (arith, within .1))

@@ -28,8 +28,7 @@ pub fn listing(image: &[u8], text: &mut [u8]) -> usize
     let n = p.length;
     let structs = p.structs as usize;
     let mut list = [0u64; types::MAX_COMMANDS];
-    let z = emit_steps::program(&stream[..n], &counts[..structs], p.at, &mut list, &mut rows);
-    let steps = z.rows;
+    emit_steps::program(&stream[..n], &counts[..structs], p.at, &mut list);
     let head = [
         p.structs as u64,
         p.steps as u64,
@@ -37,5 +36,5 @@ pub fn listing(image: &[u8], text: &mut [u8]) -> usize
         p.depth as u64,
     ];
     let k = row(text, 0, b"audala", &head);
-    program(&rows, steps, &list, text, k)
+    program(&rows, p.steps as usize, &list, text, k)
 }

@@ -1,7 +1,6 @@
 // The loader: a program image to its accepted program, or to the number of its refusal (01, numbers 1 to 8). The stream, the tables of the parameters and the
 // rows of the step directory stand in memory that the caller lends. Every entry that takes a program begins here.
 use blocks::Opened;
-use directory::rows::ROWS;
 use read_program::ProgramRead;
 use read_program::Summary;
 ghost use mathlib.Core.Path.{_≡_};
@@ -96,16 +95,4 @@ pub fn program(
         return Load::Refused(blocks::program_number(blocks::fault_of(r)));
     };
     of_stream(&buffer[..n], counts, types, rows)
-}
-
-// The same for a caller that asks for no rows: they have room of their own, which is given back.
-pub fn tables(image: &[u8], buffer: &mut [u8], counts: &mut [u8], types: &mut [u8]) -> Load
-    requires { ⌜ payload-size * program-blocks ≤ length (now buffer) ⌝ }
-    requires { ⌜ (length (now counts) ≡ max-structs) × (length (now types) ≡ max-structs * max-params) ⌝ }
-    ensures { λ r. ⌜ r ≡ load-told (checked (now (image .entry))) (stream (now (image .entry))) ⌝ }
-    ensures { λ _. ⌜ Held (checked (now (image .entry))) (stream (now (image .entry))) (now (buffer .entry)) (now (buffer .exit)) (now (counts .entry))
-        (now (counts .exit)) (now (types .entry)) (now (types .exit)) ⌝ }
-{
-    let mut rows = [0u16; ROWS];
-    program(image, buffer, counts, types, &mut rows)
 }

@@ -9,4 +9,5 @@ pub mod Finding
 pub mod Meant
 pub mod Unfold
 pub mod Rows
+pub mod ReadRows
 pub mod Laws

@@ -1,19 +1,21 @@
--- A seated machine's run: its program is prepared, memory is ready for it, and what it comes to is answered (01, 'Table and turns',
--- 'Numbers from the state').
+-- A seated machine's run: its program was prepared before, its commands are written, memory is ready for it, and what it comes to is answered (01,
+-- 'Table and turns', 'Numbers from the state').
 use Prim.Native.Nat.{ℕ, suc, _*_, _≤_}
 use native.Mathlib.Omega.{arith}
 use mathlib.Core.Path.{_≡_, ap, _∙_}
 use mathlib.Core.List.{List, map}
-use lib.ListN.{length}
+use lib.ListN.{length, drop, length-map}
+use lib.Seq.{length-take-le}
 use Rattle.types.specs.Limits.{max-commands, max-instances, schedule-items}
 use Rattle.program.specs.Tree.{Program}
-use Rattle.commands.specs.Bounds.{program-depth, Within}
+use Rattle.commands.specs.Bounds.{program-size, program-depth, Within}
 use Rattle.commands.specs.Accepted.{Accepted}
 use Rattle.commands.specs.Laws.NumbersLaws.{number-accepts}
 use Rattle.verdict.specs.Verdict.{listed}
-use Rattle.read_params.specs.ParamsWays.{from-start}
-use Rattle.commands.specs.ProgramWords.{program-words}
-use Rattle.commands.specs.ProgramWordsLaws.{program-length}
+use Rattle.commands.specs.ProgramWords.{structs-words, program-words}
+use Rattle.emit.specs.Written.{Ready as Writable, structs-at}
+use Rattle.emit_steps.specs.Emitted.{EmittedProgram}
+use Rattle.emit_steps.specs.ProgramLaws.{program-ready}
 use Rattle.machine.specs.Machine.{Machine}
 use Rattle.run.specs.Laws.RunAgreesVisits.{run-turns}
 use Rattle.run.specs.Entry.{report, report-of, output-of, last-stream}
@@ -31,64 +33,81 @@ use Rattle.interpreter.specs.Ready.{Ready}
 use Rattle.interpreter.specs.Laws.TurnLaws.{held-count}
 use Rattle.interpreter.specs.Running.{cleared, Ended}
 use Rattle.run_images.specs.declared.Report.{Report}
+use Rattle.seating.specs.declared.Opened.{Opened}
 use Rattle.seating.specs.declared.Seat.{Seat}
-use Rattle.seating.specs.Seated.{Seated}
+use Rattle.seating.specs.Seated.{Opens, Seated}
 use Rattle.seating.specs.SeatLaws.{admitted-counts}
 use Rattle.run_images.specs.Answer.{answer}
 use Rattle.run_images.specs.Stages.{Played, Came}
 
--- Preparation ----------------------------------------------------------------------------
+-- The program ----------------------------------------------------------------------------
 
-module _ {s counts : List ℕ} {seat : Seat} {heads cells : List ℕ} {p : Program} {m : Machine} (w : Seated s counts seat heads cells p m) where
-  seated-accepted : Accepted p
-  seated-accepted = number-accepts p (admitted-counts (w .admitted)) .0 (w .admitted .numbered)
+module _ {s counts : List ℕ} {at : ℕ} {p : Program} (a : Admitted s counts at p) where
+  admitted-accepted : Accepted p
+  admitted-accepted = number-accepts p (admitted-counts a) .0 (a .numbered)
 
-  module _ (list : List ℕ) (places : max-commands ≤ length list) where
-    pub seated-preparable : (spans codes : List ℕ) → length spans ≡ span-places → suc (2 * schedule-items) ≤ length codes
-        → Preparable s counts (seat .at) list spans codes
-    seated-preparable spans codes a b = record {
+  admitted-size : program-size p ≤ max-commands
+  unfolding Within
+  admitted-size = admitted-accepted .1 .1
+
+  -- its commands may be written, and then the list is the program's
+  pub admitted-ready : (list : List ℕ) → max-commands ≤ length list → Writable structs-words (structs-at counts s (length counts) at) list 0
+  admitted-ready list h =
+      program-ready counts s at p (a .end) (a .reads) (a .counted) (a .place) list admitted-size (omega (arith, admitted-size))
+
+  pub admitted-listed : (list : List ℕ) {list′ : List ℕ} → EmittedProgram counts s at list list′ → list′ ≡ listed p list
+  unfolding listed
+  admitted-listed list w = w p (a .end) (a .reads) (a .counted) (a .place)
+
+-- a program that is opened may be prepared before a machine is seated
+pub opens-preparable : {o : Opened} {s rows : List ℕ} {p : Program} → Opens o s rows p → (spans codes : List ℕ) → length spans ≡ span-places
+    → suc (2 * schedule-items) ≤ length codes → Preparable s (o .loaded .plan) (o .loaded .structs) rows (o .loaded .steps) spans codes
+opens-preparable {o} {p = p} w spans codes long wide =
+    let n = length-take-le (o .loaded .structs) (o .counts) (omega (arith, w .few, w .wide .0)) in record {
       program = p;
       end = w .admitted .end;
       reads = w .admitted .reads;
-      counts = w .admitted .counted;
-      params = w .admitted .place;
-      within = seated-accepted .1;
-      list-long = places;
-      spans-long = a;
-      codes-long = b;
+      behind = record { first = o .loaded .at; params = w .admitted .place; steps = w .planned };
+      counted = omega (arith, n, ap length (w .admitted .counted), length-map (p .params) length);
+      listed = w .listed;
+      within = admitted-accepted (w .admitted) .1;
+      rows-long = w .long;
+      spans-long = long;
+      codes-long = wide;
     }
 
-    module _ (codes list′ spans′ codes′ : List ℕ) (d : PreparedProgram s list list′ spans′ codes codes′) where
-      prepared : Prepared p list list′ spans′ codes codes′
-      prepared = d p (w .admitted .end) (w .admitted .reads)
+-- A machine that is seated -----------------------------------------------------------------
 
-      -- the commands stand in the list
-      seated-listed : list′ ≡ listed p list
-      unfolding listed Within
-      seated-listed =
-          prepared .words
-          ∙ from-start list (program-words p) (omega (arith, program-length p, seated-accepted .1 .1))
+module _ {s counts : List ℕ} {seat : Seat} {heads cells : List ℕ} {p : Program} {m : Machine} (w : Seated s counts seat heads cells p m)
+    (list codes : List ℕ) {list′ spans′ codes′ : List ℕ} (d : PreparedProgram s spans′ codes codes′) (e : EmittedProgram counts s (seat .at) list list′) where
+  prepared : Prepared p spans′ codes codes′
+  prepared = d p (w .admitted .end) (w .admitted .reads)
 
-      -- memory is ready for the machine
-      pub seated-ready : length spans′ ≡ span-places → Ready p counts list′ codes′ spans′ m (state-of (seat .numbers) heads cells)
-      seated-ready e = record {
-        prepared = record {
-          firm = accepted-firm seated-accepted;
-          bounded = rw (w .admitted .counted) (accepted-bounded seated-accepted);
-          located = prepared .located;
-          spanned = omega arith;
-        };
-        good = w .good;
-        tabled = w .tabled;
-        stands = rw seated-listed (w .stands list codes′ (prepared .laid .start));
-        kept = w .kept;
-        counting = w .counting;
-      }
+  -- the commands stand in the list
+  seated-listed : list′ ≡ listed p list
+  seated-listed = admitted-listed (w .admitted) list e
 
-      -- what it comes to is played
-      pub seated-played : {es : List ℕ} {number taken : ℕ} {z : State} → Ended p counts list′ codes′ spans′ m es number taken z
-          → Played counts es list p m number taken z list′
-      seated-played e = record { items = codes′; spans = spans′; ended = e; listed = seated-listed }
+  -- memory is ready for the machine
+  pub seated-ready : length spans′ ≡ span-places → Ready p counts list′ codes′ spans′ m (state-of (seat .numbers) heads cells)
+  unfolding listed
+  seated-ready long = record {
+    prepared = record {
+      firm = accepted-firm (admitted-accepted (w .admitted));
+      bounded = rw (w .admitted .counted) (accepted-bounded (admitted-accepted (w .admitted)));
+      located = rw seated-listed (prepared .located (drop (length (program-words p)) list));
+      spanned = omega arith;
+    };
+    good = w .good;
+    tabled = w .tabled;
+    stands = rw seated-listed (w .stands list codes′ (prepared .laid .start));
+    kept = w .kept;
+    counting = w .counting;
+  }
+
+  -- what it comes to is played
+  pub seated-played : {es : List ℕ} {number taken : ℕ} {z : State} → Ended p counts list′ codes′ spans′ m es number taken z
+      → Played counts es list p m number taken z list′
+  seated-played e = record { items = codes′; spans = spans′; ended = e; listed = seated-listed }
 
 -- The end of the run -----------------------------------------------------------------------
 

@@ -9,13 +9,10 @@ use Rattle.verdict.specs.Verdict.{listed}
 use Rattle.machine.specs.Machine.{Machine}
 use Rattle.run.specs.Run.{run}
 use Rattle.run.specs.Entry.{Begun, with-table, with-room, report-of, output-of, run-report-by, run-output-by, run-list-by}
-use Rattle.layout.specs.State.{State, state-of}
-use Rattle.interpreter.specs.declared.turns.Ran.{Ran}
+use Rattle.layout.specs.State.{State}
 use Rattle.interpreter.specs.Running.{Ended}
-use Rattle.load.specs.declared.Loaded.{Loaded}
-use Rattle.seating.specs.declared.Params.{Params}
-use Rattle.seating.specs.declared.Seat.{Seat}
-use Rattle.seating.specs.Seated.{Opens, Seated}
+use Rattle.seating.specs.declared.Opened.{Opened}
+use Rattle.seating.specs.Seated.{Opens}
 use Rattle.run_images.specs.declared.Report.{Report}
 use Rattle.run_images.specs.Answer.{answer}
 
@@ -27,12 +24,6 @@ pub record Played (counts es list : List ℕ) (p : Program) (m : Machine) (numbe
   pub spans : List ℕ
   pub ended : Ended p counts list′ items spans m es number taken z
   pub listed : list′ ≡ listed p list
-
--- whatever program and machine are seated
-abbrev pub Plays : List ℕ → List ℕ → Seat → List ℕ → List ℕ → List ℕ → List ℕ → Ran → List ℕ → List ℕ → List ℕ → Type 0
-Plays s counts seat heads cells es list r heads′ cells′ list′ =
-    (p : Program) (m : Machine) → Seated s counts seat heads cells p m
-    → Played counts es list p m (r .number) (r .taken) (state-of (r .machine .numbers) heads′ cells′) list′
 
 -- what a run of m with the bytes es is answered by, and what it leaves in the output
 pub record Came (p : Program) (m : Machine) (es out : List ℕ) (r : Report) (out′ : List ℕ) : Type 0 where
@@ -48,5 +39,5 @@ pub record Answers (b : Begun) (es out list : List ℕ) (r : Report) (out′ lis
   pub listed : list′ ≡ run-list-by (on b (with-room es out list)) list
 
 -- whatever program is opened
-abbrev pub Begins : Loaded → Params → List ℕ → List ℕ → List ℕ → List ℕ → List ℕ → Report → List ℕ → List ℕ → Type 0
-Begins z q s y es out list r out′ list′ = (p : Program) → Opens z q s p → Answers (with-table y p) es out list r out′ list′
+abbrev pub Begins : Opened → List ℕ → List ℕ → List ℕ → List ℕ → List ℕ → List ℕ → Report → List ℕ → List ℕ → Type 0
+Begins o s rows y es out list r out′ list′ = (p : Program) → Opens o s rows p → Answers (with-table y p) es out list r out′ list′

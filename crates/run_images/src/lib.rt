@@ -2,23 +2,22 @@
 // number, the commands taken, the blocks written and the depth; the commands to the lent list, the last table to the output.
 use compile::items::CODES;
 use compile::spans::SPANS;
+use directory::rows::ROWS;
 use engine::Machine;
 use interpreter::turns::Ran;
 use load::Load;
-use load::Loaded;
-use seating::Params;
-use seating::Seat;
+use seating::Opened;
 use seating::SeatRead;
 ghost use mathlib.Core.Path.{_≡_};
 ghost use Prim.Native.Nat.{_*_, _≤_};
 ghost use lib.ListN.{length};
-ghost use Rattle.types.specs.Limits.{table-blocks, max-commands, max-turns, max-instances};
+ghost use Rattle.types.specs.Limits.{table-blocks, max-turns, max-instances};
 ghost use Rattle.block.specs.Block.{block-size, payload-size};
 ghost use Rattle.run.specs.Entry.{report, run-report, run-output, run-list};
 ghost use Rattle.table_write.specs.Written.{Filled, memory-blocks, memory-image};
-ghost use Rattle.seating.specs.Seated.{Opening, Seating};
+ghost use Rattle.seating.specs.Seated.{Opening};
 ghost use Rattle.run_images.specs.Answer.{answer};
-ghost use Rattle.run_images.specs.Stages.{Plays, Begins};
+ghost use Rattle.run_images.specs.Stages.{Begins};
 
 // Output bytes that a run asks for.
 const OUTPUT: usize = types::TABLE_BLOCKS * blocks::BLOCK_SIZE;
@@ -44,29 +43,6 @@ fn refused(number: u8) -> Report
         depth: 0,
         holding: 0,
     }
-}
-
-// The run of a machine that is seated: the commands of its program are written into the list, and the turns are taken.
-fn played(
-    s: &[u8],
-    counts: &[u8],
-    seat: Seat,
-    heads: &mut [u16],
-    cells: &mut [u64],
-    turns: &[u8],
-    list: &mut [u64],
-) -> Ran
-    requires { ⌜ Seating (now s) (now counts) seat (now heads) (now cells) ⌝ }
-    requires { ⌜ max-commands ≤ length (now list) ⌝ }
-    ensures { λ r. ⌜ Plays (now (s .entry)) (now (counts .entry)) seat (now (heads .entry)) (now (cells .entry)) (now (turns .entry)) (now (list .entry)) r
-        (now (heads .exit)) (now (cells .exit)) (now (list .exit)) ⌝ }
-{
-    let mut spans = [0u16; SPANS];
-    let mut items = [0usize; CODES];
-    compile::program(s, counts, seat.at, list, &mut spans, &mut items);
-    let numbers = seat.numbers;
-    let first = Machine { numbers };
-    interpreter::turns::run(first, list, counts, &items, &spans, heads, cells, turns)
 }
 
 // What a run answers; the table as it stands then is written into the output, its stream into the buffer before.
@@ -100,26 +76,31 @@ fn reported(
     }
 }
 
-// After an accepted program: 9 to 14 in order, or a run.
+// After an accepted program: 9 to 14 in order, or a run. Where its steps will stand and its schedule are known before a machine is seated; the commands
+// are written into the list after all refusals, and the turns are taken.
 fn begun(
-    p: Loaded,
-    q: Params,
+    o: Opened,
     s: &[u8],
+    rows: &[u16],
     table: &[u8],
     turns: &[u8],
     output: &mut [u8],
     list: &mut [u64],
 ) -> Report
-    requires { ⌜ Opening p q (now s) ⌝ }
-    ensures { λ r. ⌜ Begins p q (now (s .entry)) (now (table .entry)) (now (turns .entry)) (now (output .entry)) (now (list .entry)) r
+    requires { ⌜ Opening o (now s) (now rows) ⌝ }
+    ensures { λ r. ⌜ Begins o (now (s .entry)) (now (rows .entry)) (now (table .entry)) (now (turns .entry)) (now (output .entry)) (now (list .entry)) r
         (now (output .exit)) (now (list .exit)) ⌝ }
 {
-    let counts = q.counts;
-    let types = q.types;
+    let p = o.loaded;
+    let counts = o.counts;
+    let types = o.types;
     let k = p.structs as usize;
     let end = types::MAX_PARAMS * k;
     let cs = &counts[..k];
     let ts = &types[..end];
+    let mut spans = [0u16; SPANS];
+    let mut items = [0usize; CODES];
+    compile::program(s, p.plan, k, rows, p.steps as usize, &mut spans, &mut items);
     let mut buffer = [0u8; types::TABLE_BLOCKS * blocks::PAYLOAD_SIZE];
     let mut heads = [0u16; layout::HEADS];
     let mut cells = [0u64; layout::CELLS];
@@ -139,7 +120,19 @@ fn begun(
     if types::MAX_TURNS < turns.len() {
         return refused(types::number::MANY_TURNS);
     }
-    let ran = played(s, cs, seat, &mut heads, &mut cells, turns, list);
+    emit_steps::program(s, cs, seat.at, list);
+    let numbers = seat.numbers;
+    let first = Machine { numbers };
+    let ran = interpreter::turns::run(
+        first,
+        list,
+        cs,
+        &items,
+        &spans,
+        &mut heads,
+        &mut cells,
+        turns,
+    );
     reported(cs, &heads, &cells, ran, p.depth, &mut buffer, output)
 }
 
@@ -160,12 +153,17 @@ pub fn run(
     let mut stream = [0u8; seating::SHORT];
     let mut counts = [0u8; types::MAX_STRUCTS];
     let mut types = [0u8; types::MAX_STRUCTS * types::MAX_PARAMS];
+    let mut rows = [0u16; ROWS];
     // 1 to 8
-    let loaded = seating::admit(program, &mut stream, &mut counts, &mut types);
-    let Load::Program(p) = loaded else {
-        return refused(load::refusal(loaded));
+    let r = seating::admit(program, &mut stream, &mut counts, &mut types, &mut rows);
+    let Load::Program(loaded) = r else {
+        return refused(load::refusal(r));
     };
-    let n = p.length;
-    let q = Params { counts, types };
-    begun(p, q, &stream[..n], table, turns, output, list)
+    let n = loaded.length;
+    let o = Opened {
+        loaded,
+        counts,
+        types,
+    };
+    begun(o, &stream[..n], &rows, table, turns, output, list)
 }

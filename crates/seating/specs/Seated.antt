@@ -7,7 +7,11 @@ use lib.ListN.{length, take}
 use Rattle.types.specs.Limits.{max-structs, max-params, max-commands, schedule-items}
 use Rattle.types.specs.Stages.{Stage.went as table, Stage.stopped as no-table}
 use Rattle.program.specs.Tree.{Program}
-use Rattle.commands.specs.Bounds.{program-depth}
+use Rattle.program.specs.Reader.{Result.ok}
+use Rattle.commands.specs.Bounds.{arities, program-depth}
+use Rattle.directory.specs.Directory.{directory}
+use Rattle.directory.specs.Rows.{row-places, rows-from}
+use Rattle.emit.specs.Written.{structs-at}
 use Rattle.verdict.specs.Verdict.{listed}
 use Rattle.judge.specs.ProgramFacts.{types-table}
 use Rattle.table.specs.Table.{Record}
@@ -22,11 +26,10 @@ use Rattle.layout.specs.State.{state-of}
 use Rattle.memory.specs.Choose.{Kept}
 use Rattle.memory.specs.Plan.{At}
 use Rattle.memory.specs.Stands.{Stands}
-use Rattle.load.specs.declared.Loaded.{Loaded}
 use Rattle.load.specs.Load.{Admitted}
 use Rattle.table_read.specs.declared.TableRead.{TableRead}
 use Rattle.table_read.specs.declared.TableRead.the-variants.{Instances, Refused as Refuses}
-use Rattle.seating.specs.declared.Params.{Params}
+use Rattle.seating.specs.declared.Opened.{Opened}
 use Rattle.seating.specs.declared.Seat.{Seat}
 use Rattle.seating.specs.declared.SeatRead.{SeatRead}
 use Rattle.seating.specs.declared.SeatRead.the-variants.{Taken, Refused}
@@ -37,16 +40,19 @@ use Rattle.seating.specs.declared.SeatRead.the-variants.{Taken, Refused}
 abbrev pub most-bytes : ℕ
 most-bytes = 2 + 26 * max-structs + 5 * max-commands + 3 * schedule-items
 
--- its stream, the numbers that it was loaded as, and its parameters
-pub record Opens (z : Loaded) (q : Params) (s : List ℕ) (p : Program) : Type 0 where
-  pub admitted : Admitted s (take (z .structs) (q .counts)) (z .at) p
-  pub typed : take (max-params * z .structs) (q .types) ≡ types-table (p .params)
-  pub deep : z .depth ≡ program-depth p
-  pub few : z .structs ≤ max-structs
-  pub wide : (length (q .counts) ≡ max-structs) × (length (q .types) ≡ max-structs * max-params)
+-- its stream, the numbers that it was loaded as, its parameters, and the rows of its step directory
+pub record Opens (o : Opened) (s rows : List ℕ) (p : Program) : Type 0 where
+  pub admitted : Admitted s (take (o .loaded .structs) (o .counts)) (o .loaded .at) p
+  pub typed : take (max-params * o .loaded .structs) (o .types) ≡ types-table (p .params)
+  pub planned : structs-at (arities p) s (length (arities p)) (o .loaded .at) ≡ ok (p .steps) (o .loaded .plan)
+  pub listed : rows-from rows 0 (o .loaded .steps) ≡ directory p
+  pub deep : o .loaded .depth ≡ program-depth p
+  pub few : o .loaded .structs ≤ max-structs
+  pub wide : (length (o .counts) ≡ max-structs) × (length (o .types) ≡ max-structs * max-params)
+  pub long : row-places * o .loaded .steps ≤ length rows
 
-abbrev pub Opening : Loaded → Params → List ℕ → Type 0
-Opening z q s = (p : Program) × (Opens z q s p)
+abbrev pub Opening : Opened → List ℕ → List ℕ → Type 0
+Opening o s rows = (p : Program) × (Opens o s rows p)
 
 -- of some stream, its parameters alone
 pub record Admits (s counts types : List ℕ) (at : ℕ) (p : Program) : Type 0 where

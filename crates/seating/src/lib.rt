@@ -2,6 +2,7 @@
 // is seated in lent memory beside it, here the one that a table image begins with (9 to 12).
 use layout::Numbers;
 use load::Load;
+use load::Loaded;
 use table_read::TableRead;
 ghost use mathlib.Core.Path.{_≡_};
 ghost use Prim.Native.Nat.{_*_, _≤_};
@@ -9,9 +10,10 @@ ghost use lib.ListN.{length};
 ghost use Rattle.types.specs.Limits.{max-structs, max-params, table-blocks, max-instances};
 ghost use Rattle.block.specs.Block.{payload-size};
 ghost use Rattle.blocks.specs.Images.{stream};
+ghost use Rattle.directory.specs.Rows.{directory-places};
 ghost use Rattle.verdict.specs.Verdict.{checked};
 ghost use Rattle.layout.specs.Layout.{head-size, row-size};
-ghost use Rattle.load.specs.Load.{load-told, Held};
+ghost use Rattle.load.specs.Load.{load-told, RowsHeld, Held};
 ghost use Rattle.seating.specs.Seated.{most-bytes, table-refusal, seat-refusal, Admitting, SeatsTable};
 
 // Bytes that the stream of an accepted program has at most: five for a command, three for a scheduled item, and what structs and steps take.
@@ -20,8 +22,9 @@ pub const SHORT: usize = 2
     + 5 * types::MAX_COMMANDS
     + 3 * types::SCHEDULE_ITEMS;
 
-// A program's parameters: for each struct how many there are, and eight places with the bytes of their types.
-pub struct Params {
+// An accepted program: what it was loaded as, and its parameters; for each struct how many there are, and eight places with the bytes of their types.
+pub struct Opened {
+    pub loaded: Loaded,
     pub counts: [u8; types::MAX_STRUCTS],
     pub types: [u8; types::MAX_STRUCTS * types::MAX_PARAMS],
 }
@@ -57,17 +60,25 @@ fn table_refusal(r: TableRead) -> u8
     n
 }
 
-// A program image, as `load::tables` has it, into a buffer that the stream of an accepted program fits: the room for a longer one is given back before
+// A program image, as `load::program` has it, into a buffer that the stream of an accepted program fits: the room for a longer one is given back before
 // an entry's own memory is asked for.
-pub fn admit(image: &[u8], buffer: &mut [u8], counts: &mut [u8], types: &mut [u8]) -> Load
+pub fn admit(
+    image: &[u8],
+    buffer: &mut [u8],
+    counts: &mut [u8],
+    types: &mut [u8],
+    rows: &mut [u16],
+) -> Load
     requires { ⌜ most-bytes ≤ length (now buffer) ⌝ }
     requires { ⌜ (length (now counts) ≡ max-structs) × (length (now types) ≡ max-structs * max-params) ⌝ }
+    requires { ⌜ directory-places ≤ length (now rows) ⌝ }
     ensures { λ r. ⌜ r ≡ load-told (checked (now (image .entry))) (stream (now (image .entry))) ⌝ }
     ensures { λ _. ⌜ Held (checked (now (image .entry))) (stream (now (image .entry))) (now (buffer .entry)) (now (buffer .exit))
         (now (counts .entry)) (now (counts .exit)) (now (types .entry)) (now (types .exit)) ⌝ }
+    ensures { λ _. ⌜ RowsHeld (checked (now (image .entry))) (now (rows .exit)) ⌝ }
 {
     let mut stream = [0u8; types::PROGRAM_BLOCKS * blocks::PAYLOAD_SIZE];
-    let r = load::tables(image, &mut stream, counts, types);
+    let r = load::program(image, &mut stream, counts, types, rows);
     let Load::Program(p) = r else {
         return r;
     };

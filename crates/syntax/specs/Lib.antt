@@ -11,3 +11,4 @@ pub mod Letters
 pub mod Rows
 pub mod LevelRows
 pub mod Laws
+pub mod SumRows

@@ -4,5 +4,6 @@ pub mod NamedLaws
 pub mod FrontLaws
 pub mod CoverLaws
 pub mod LexingLaws
+pub mod StrayLaws
 pub mod KindLaws
 pub mod MarkingLaws

@@ -4,8 +4,10 @@ pub mod TokenNumbers
 pub mod KindNames
 pub mod Kinds
 pub mod Lexing
+pub mod Straying
 pub mod Scanning
 pub mod Marking
 pub mod Unfold
 pub mod Rows
+pub mod ByteRows
 pub mod Laws

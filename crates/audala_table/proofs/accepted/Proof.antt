@@ -13,10 +13,10 @@ use Rattle.audala_table.proofs.accepted.Tie as tie
 
 -- the places that proofs look back to
 abbrev start : tie.After-admit → tie.Start
-start c = let at-lent = c .before .before .before in at-lent .before .before .before
+start c = let at-lent = c .before .before .before .before in at-lent .before .before .before
 
 abbrev at-admit : tie.After-loaded → tie.After-admit
-at-admit c = let at-match = c .before in at-match .before .before .before .before
+at-admit c = let at-match = c .before in let at-rows = at-match .before in at-rows .before .before .before .before
 
 abbrev answered : tie.After-loaded → Loaded
 answered c = c .loaded .given .0 .0
@@ -48,7 +48,7 @@ before-table c = let at-types = c .before .before .before in at-loaded (at-types
 
 seat-table-requires : tie.Need-seat-table-requires
 seat-table-requires c κs =
-    let l = before-table c in let held = at-admit l .admit .ensures .1 in (
+    let l = before-table c in let held = at-admit l .admit .ensures .1 .0 in (
       (stream-of l, loads l .program, record { admitted = admitted _ _ (loads l) _ _ _ _ _ _ held; typed = types-are _ _ (loads l) _ _ _ _ _ _ held }),
       ((simp length-replicate (omega arith), simp length-replicate (omega arith)), simp length-replicate (omega arith)),
     )
@@ -56,7 +56,7 @@ seat-table-requires c κs =
 pub accepted-spec : {M : Type 1} → statement M
 accepted-spec =
     tie.close
-    (tie.spec (λ c. search needs) (λ c. search needs) (λ c. search needs) (λ c κs. search needs) (λ c. search needs) (λ c. search needs)
+    (tie.spec (λ c. search needs) (λ c. search needs) (λ c. search needs) (λ c. search needs) (λ c κs. search needs) (λ c. search needs) (λ c. search needs)
     (λ c κs. search needs) (λ c κs. search needs) (λ c. search needs) (λ c. search needs) (λ c. search needs) array-share-prefix-counts
     slice-aggregate-cs array-share-prefix-types slice-aggregate-ts (λ c. search needs) (λ c. search needs) (λ c. search needs) seat-table-requires
     (λ c. search needs) (λ c. search needs) (λ c κs. search needs) (λ c κs. search needs) (λ c. search needs) (λ c. search needs))

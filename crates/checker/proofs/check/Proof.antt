@@ -5,7 +5,7 @@ use lib.Seq.{length-take-le}
 use Rattle.load.specs.declared.Loaded.{Loaded}
 use Rattle.load.specs.LoadLaws.{LoadedAs, load-refused, load-value, length-fits, structs-few, admitted}
 use Rattle.checker.specs.Answer.{answer}
-use Rattle.checker.specs.CheckLaws.{refused-answers, short-answers, room-answers, approved-is, fits, counts-few, wrote}
+use Rattle.checker.specs.CheckLaws.{refused-answers, short-answers, room-answers, approved-is, writable, wrote}
 use borrow.Author.Needs.{needs}
 use Rattle.checker.proofs.check.Statement.{statement}
 use Rattle.checker.proofs.check.Tie as tie
@@ -54,18 +54,17 @@ slice-aggregate-program-6 c = sym (length-take-le _ _ (array-share-prefix-counts
 
 program-requires-2 : tie.Need-program-requires-2
 program-requires-2 c κs =
-    let at-if1 = at-else (c .before) in let at-r = at-if1 .before .before in let l = loads at-r in
-    let a = admitted _ _ l _ _ _ _ _ _ (at-program at-r .program .ensures .1 .0) in let list = start (at-program at-r) .args .list .now in
-    (fits _ _ l _ _ a list (at-if1 .if1 .left) _ (omega (arith, at-program at-r .program .kept .1 .1 .1 .1 .0)), counts-few _ _ l _ _ a)
+    let at-if1 = at-else c in let at-r = at-if1 .before .before in let l = loads at-r in
+    let a = admitted _ _ l _ _ _ _ _ _ (at-program at-r .program .ensures .1 .0) in
+    writable _ _ l _ _ a (start (at-program at-r) .args .list .now) (at-if1 .if1 .left)
 
 returns-3 : tie.Need-returns-3
 returns-3 c =
-    let written = c .before .before .before .before in
-    let at-if1 = at-else (written .before .before) in let at-r = at-if1 .before .before in let l = loads at-r in
+    let written = c .before .before .before in let at-if1 = at-else (written .before) in let at-r = at-if1 .before .before in let l = loads at-r in
     let args = start (at-program at-r) .args in let a = admitted _ _ l _ _ _ _ _ _ (at-program at-r .program .ensures .1 .0) in
     let w = room-answers (args .image .now) (args .list .now) _ (l .accepts) (at-if1 .if1 .left) in (
       c .accepted .ensures ∙ approved-is _ _ l ∙ ap answer (w .0),
-      wrote _ _ l _ _ a (args .list .now) (at-if1 .if1 .left) _ _ _ (written .program2 .ensures) ∙ w .1,
+      wrote _ _ l _ _ a (args .list .now) (written .program2 .ensures) ∙ w .1,
     )
 
 pub check-spec : {M : Type 1} → statement M
@@ -74,4 +73,4 @@ check-spec =
     (tie.spec (λ c. search needs) (λ c. search needs) (λ c. search needs) (λ c. search needs) (λ c κs. search needs) (λ c. search needs) (λ c. search needs)
     (λ c κs. search needs) (λ c κs. search needs) returns
     (λ c κs. search needs) returns-2 (λ c. search needs) array-share-prefix-stream slice-aggregate-program-5 array-share-prefix-counts
-    slice-aggregate-program-6 (λ c. search needs) program-requires-2 (λ c κs. search needs) (λ c. search needs) returns-3)
+    slice-aggregate-program-6 program-requires-2 (λ c κs. search needs) (λ c. search needs) returns-3)

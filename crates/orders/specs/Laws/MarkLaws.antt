@@ -47,6 +47,22 @@ passes-is e = cc
 meets-is : {a b : ℕ} → meets a ≡ meets b → a ≡ b
 meets-is e = cc
 
+-- a touch that passes only as the same instance's leaves the mark that it passes with
+own-mark : (l a : ℕ) (k k′ : Mark) (S : Mark → Type 0) → (l ≡ a → S k) → elim (eqb l a) [ true ↦ passes k | false ↦ meets a ] ≡ passes k′ → S k′
+own-mark l a k k′ S h e = go (eqb l a) refl e
+  where
+    go : (t : Bool) → eqb l a ≡ t → elim t [ true ↦ passes k | false ↦ meets a ] ≡ passes k′ → S k′
+    go true q e = subst S (passes-is e) (h (eqb-true l a q))
+    go false q e = passes-meets (sym e)
+
+-- and one that does not pass meets another instance
+other-met : (l b a : ℕ) (k : Mark) (S : ℕ → Type 0) → S b → elim (eqb l b) [ true ↦ passes k | false ↦ meets b ] ≡ meets a → (S a) × (l ≡ a → ⊥)
+other-met l b a k S s e = go (eqb l b) refl e
+  where
+    go : (t : Bool) → eqb l b ≡ t → elim t [ true ↦ passes k | false ↦ meets b ] ≡ meets a → (S a) × (l ≡ a → ⊥)
+    go true h e = passes-meets e
+    go false h e = let same = meets-is e in (subst S same s, λ f. eqb-false l b h (f ∙ sym same))
+
 module _ (T : Past) (q v : ℕ) where
   -- an act that does not touch the parameter
   pub elsewhere : (k : Mark) (y : Act Deed) → (On q v (y .deed) → ⊥) → Says T q v k → Says (also T y) q v k
@@ -77,15 +93,9 @@ module _ (T : Past) (q v : ℕ) where
     after-read (read-by-two a b) k′ s e =
         subst (Says (also T (by l (reads q v))) q v) (passes-is e)
         (λ x t o. ⊎-elim (λ t. s .0 x t o) (λ f. ap (λ z. z .deed) f) t, inl (s .1), inl (s .2), s .3)
-    after-read (written-by a) k′ s e = go (eqb l a) refl e
-      where
-        go : (t : Bool) → eqb l a ≡ t → elim t [ true ↦ passes (written-by a) | false ↦ meets a ] ≡ passes k′
-            → Says (also T (by l (reads q v))) q v k′
-        go true h e =
-            let same = eqb-true l a h in
-            subst (Says (also T (by l (reads q v))) q v) (passes-is e)
-            (λ x t o. ⊎-elim (λ t. s .0 x t o) (λ f. ap (λ z. z .actor) f ∙ same) t, inl (s .1))
-        go false h e = passes-meets (sym e)
+    after-read (written-by a) k′ s e =
+        own-mark l a (written-by a) k′ (Says (also T (by l (reads q v))) q v)
+        (λ same. (λ x t o. ⊎-elim (λ t. s .0 x t o) (λ f. ap (λ z. z .actor) f ∙ same) t, inl (s .1))) e
 
     -- writes it
     pub after-write : (k k′ : Mark) → Says T q v k → write-at l k ≡ passes k′ → Says (also T (by l (writes q v))) q v k′
@@ -93,25 +103,16 @@ module _ (T : Past) (q v : ℕ) where
     after-write untouched k′ s e =
         subst (Says (also T (by l (writes q v))) q v) (passes-is e)
         (λ x t o. ⊎-elim (λ t. absurd (s x t o)) (λ f. ap (λ z. z .actor) f) t, inr refl)
-    after-write (read-by a) k′ s e = go (eqb l a) refl e
-      where
-        go : (t : Bool) → eqb l a ≡ t → elim t [ true ↦ passes (written-by a) | false ↦ meets a ] ≡ passes k′
-            → Says (also T (by l (writes q v))) q v k′
-        go true h e =
-            let same = eqb-true l a h in
-            subst (Says (also T (by l (writes q v))) q v) (passes-is e)
-            (λ x t o. ⊎-elim (λ t. s .0 x t o .0) (λ f. ap (λ z. z .actor) f ∙ same) t, inr (ap (λ z. by z (writes q v)) (sym same)))
-        go false h e = passes-meets (sym e)
+    after-write (read-by a) k′ s e =
+        own-mark l a (written-by a) k′ (Says (also T (by l (writes q v))) q v)
+        (λ same. (
+          λ x t o. ⊎-elim (λ t. s .0 x t o .0) (λ f. ap (λ z. z .actor) f ∙ same) t,
+          inr (ap (λ z. by z (writes q v)) (sym same)),
+        )) e
     after-write (read-by-two a b) k′ s e = passes-meets (sym e)
-    after-write (written-by a) k′ s e = go (eqb l a) refl e
-      where
-        go : (t : Bool) → eqb l a ≡ t → elim t [ true ↦ passes (written-by a) | false ↦ meets a ] ≡ passes k′
-            → Says (also T (by l (writes q v))) q v k′
-        go true h e =
-            let same = eqb-true l a h in
-            subst (Says (also T (by l (writes q v))) q v) (passes-is e)
-            (λ x t o. ⊎-elim (λ t. s .0 x t o) (λ f. ap (λ z. z .actor) f ∙ same) t, inl (s .1))
-        go false h e = passes-meets (sym e)
+    after-write (written-by a) k′ s e =
+        own-mark l a (written-by a) k′ (Says (also T (by l (writes q v))) q v)
+        (λ same. (λ x t o. ⊎-elim (λ t. s .0 x t o) (λ f. ap (λ z. z .actor) f ∙ same) t, inl (s .1))) e
 
     -- whom a read meets wrote it; whom a write meets touched it
     pub met-read : (k : Mark) (a : ℕ) → Says T q v k → read-at l k ≡ meets a → (T (by a (writes q v))) × (l ≡ a → ⊥)
@@ -119,24 +120,14 @@ module _ (T : Past) (q v : ℕ) where
     met-read untouched a s e = passes-meets e
     met-read (read-by b) a s e = passes-meets e
     met-read (read-by-two b c) a s e = passes-meets e
-    met-read (written-by b) a s e = go (eqb l b) refl e
-      where
-        go : (t : Bool) → eqb l b ≡ t → elim t [ true ↦ passes (written-by b) | false ↦ meets b ] ≡ meets a → (T (by a (writes q v))) × (l ≡ a → ⊥)
-        go true h e = passes-meets e
-        go false h e =
-            let same = meets-is e in (subst (λ z. T (by z (writes q v))) same (s .1), λ f. eqb-false l b h (f ∙ sym same))
+    met-read (written-by b) a s e = other-met l b a (written-by b) (λ z. T (by z (writes q v))) (s .1) e
 
     pub met-write : (k : Mark) (a : ℕ) → Says T q v k → write-at l k ≡ meets a → (d : Deed) × (T (by a d)) × (On q v d) × (l ≡ a → ⊥)
     unfolding write-at
     met-write untouched a s e = passes-meets e
-    met-write (read-by b) a s e = go (eqb l b) refl e
-      where
-        go : (t : Bool) → eqb l b ≡ t → elim t [ true ↦ passes (written-by b) | false ↦ meets b ] ≡ meets a
-            → (d : Deed) × (T (by a d)) × (On q v d) × (l ≡ a → ⊥)
-        go true h e = passes-meets e
-        go false h e =
-            let same = meets-is e in
-            (reads q v, subst (λ z. T (by z (reads q v))) same (s .1), inl refl, λ f. eqb-false l b h (f ∙ sym same))
+    met-write (read-by b) a s e =
+        let (t, n) = other-met l b a (written-by b) (λ z. T (by z (reads q v))) (s .1) e in
+        (reads q v, t, inl refl, n)
     met-write (read-by-two b c) a s e = go (eqb l b) refl e
       where
         go : (t : Bool) → eqb l b ≡ t → meets (elim t [ true ↦ c | false ↦ b ]) ≡ meets a
@@ -147,14 +138,9 @@ module _ (T : Past) (q v : ℕ) where
         go false h e =
             let same = meets-is e in
             (reads q v, subst (λ z. T (by z (reads q v))) same (s .1), inl refl, λ f. eqb-false l b h (f ∙ sym same))
-    met-write (written-by b) a s e = go (eqb l b) refl e
-      where
-        go : (t : Bool) → eqb l b ≡ t → elim t [ true ↦ passes (written-by b) | false ↦ meets b ] ≡ meets a
-            → (d : Deed) × (T (by a d)) × (On q v d) × (l ≡ a → ⊥)
-        go true h e = passes-meets e
-        go false h e =
-            let same = meets-is e in
-            (writes q v, subst (λ z. T (by z (writes q v))) same (s .1), inr refl, λ f. eqb-false l b h (f ∙ sym same))
+    met-write (written-by b) a s e =
+        let (t, n) = other-met l b a (written-by b) (λ z. T (by z (writes q v))) (s .1) e in
+        (writes q v, t, inr refl, n)
 
 -- All marks ---------------------------------------------------------------------------------------
 

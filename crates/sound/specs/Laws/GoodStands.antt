@@ -45,38 +45,32 @@ if-past n r d e =
     let (b, c, q, h, w) = if-head d n r e in
     (c, ap (λ (k : ℕ). drop k r) h ∙ ap (drop (length (flatten b))) w ∙ drop-append-seam (flatten b) (flatten c))
 
-nested-on : (n : Note) (c : List Note) → Nested (n ∷ c) → Nested c
-unfolding erase
-nested-on (n-push t v) c (d, e) = plain-rest _ (map erase c) d e
-nested-on n-this c (d, e) = plain-rest _ (map erase c) d e
-nested-on n-not c (d, e) = plain-rest _ (map erase c) d e
-nested-on (n-rd k x) c (d, e) = plain-rest _ (map erase c) d e
-nested-on (n-wr k x) c (d, e) = plain-rest _ (map erase c) d e
-nested-on (n-get t x) c (d, e) = plain-rest _ (map erase c) d e
-nested-on (n-set b t x) c (d, e) = plain-rest _ (map erase c) d e
-nested-on (n-cons k) c (d, e) = plain-rest _ (map erase c) d e
-nested-on (n-op o) c (d, e) = plain-rest _ (map erase c) d e
-nested-on (n-if j) c (d, e) = if-in j (map erase c) d e
+-- a command that is no if leads to one place alone
+one-way : (c : List Note) → Nested c → (Nested c) × (Nested c)
+one-way c q = (q, q)
 
-nested-over : (n : Note) (c : List Note) → Nested (n ∷ c) → Nested (drop (jump n) c)
+-- so are those after any command: the next ones, and those after an if's body
+nested-on : (n : Note) (c : List Note) → Nested (n ∷ c) → (Nested c) × (Nested (drop (jump n) c))
 unfolding erase
-nested-over (n-push t v) c (d, e) = plain-rest _ (map erase c) d e
-nested-over n-this c (d, e) = plain-rest _ (map erase c) d e
-nested-over n-not c (d, e) = plain-rest _ (map erase c) d e
-nested-over (n-rd k x) c (d, e) = plain-rest _ (map erase c) d e
-nested-over (n-wr k x) c (d, e) = plain-rest _ (map erase c) d e
-nested-over (n-get t x) c (d, e) = plain-rest _ (map erase c) d e
-nested-over (n-set b t x) c (d, e) = plain-rest _ (map erase c) d e
-nested-over (n-cons k) c (d, e) = plain-rest _ (map erase c) d e
-nested-over (n-op o) c (d, e) = plain-rest _ (map erase c) d e
-nested-over (n-if j) c (d, e) = let (f, q) = if-past j (map erase c) d e in (f, map-drop erase j c ∙ q)
+nested-on (n-push t v) c (d, e) = one-way c (plain-rest _ (map erase c) d e)
+nested-on n-this c (d, e) = one-way c (plain-rest _ (map erase c) d e)
+nested-on n-not c (d, e) = one-way c (plain-rest _ (map erase c) d e)
+nested-on (n-rd k x) c (d, e) = one-way c (plain-rest _ (map erase c) d e)
+nested-on (n-wr k x) c (d, e) = one-way c (plain-rest _ (map erase c) d e)
+nested-on (n-get t x) c (d, e) = one-way c (plain-rest _ (map erase c) d e)
+nested-on (n-set b t x) c (d, e) = one-way c (plain-rest _ (map erase c) d e)
+nested-on (n-cons k) c (d, e) = one-way c (plain-rest _ (map erase c) d e)
+nested-on (n-op o) c (d, e) = one-way c (plain-rest _ (map erase c) d e)
+nested-on (n-if j) c (d, e) =
+    let (f, q) = if-past j (map erase c) d e in
+    (if-in j (map erase c) d e, (f, map-drop erase j c ∙ q))
 
 -- so are those at every place that a way leads to,
 way-nested : (G : Ctx) (b : Stmts) {c : List Note} {x : Tags} → Way G (noted G b) at-start c x → Nested c
 unfolding commands
 way-nested G b start = (body-coms b, erased G b)
-way-nested G b (on {n = n} {c = c} w) = nested-on n c (way-nested G b w)
-way-nested G b (over {n = n} {c = c} w) = nested-over n c (way-nested G b w)
+way-nested G b (on {n = n} {c = c} w) = nested-on n c (way-nested G b w) .0
+way-nested G b (over {n = n} {c = c} w) = nested-on n c (way-nested G b w) .1
 
 -- with those in the list after the step's
 nested-join : (c d : List Note) → Nested c → Nested d → Nested (c ++ d)

@@ -25,7 +25,7 @@ pub record Ahead (x u : List ℕ) (f : ℕ → Front) : Type 0 where
   pub sized : length u ≡ suc behind
   pub met : front x ≡ f behind
 
-blank-ahead : (b : ℕ) (s : List ℕ) → blank b ≡ true → front (b ∷ s) ≡ gap-front 0
+pub blank-ahead : (b : ℕ) (s : List ℕ) → blank b ≡ true → front (b ∷ s) ≡ gap-front 0
 unfolding front front-of
 blank-ahead b s e = rw (class-blank b e) refl
 
@@ -33,7 +33,7 @@ comment-ahead : (w s : List ℕ) → Closes w → front (slash ∷ star ∷ (w +
 unfolding front front-of class letter digit blank between other-front opens after-star comment-front
 comment-ahead w s c = rw (closing-first w s c) refl
 
-gap-ahead : (u s : List ℕ) → Gap u → Ahead (u ++ s) u gap-front
+pub gap-ahead : (u s : List ℕ) → Gap u → Ahead (u ++ s) u gap-front
 gap-ahead u s (blank-byte {b = b} e) = record { behind = 0; sized = refl; met = blank-ahead b s e }
 gap-ahead u s (comment w c) =
     record {
@@ -42,7 +42,7 @@ gap-ahead u s (comment w c) =
       met = rw (append-assoc w close s) (comment-ahead w s c);
     }
 
-token-ahead : (t : Token) (s : List ℕ) → Proper t → Longest (spelling t) s → Ahead (spelling t ++ s) (spelling t) (token-front t)
+pub token-ahead : (t : Token) (s : List ℕ) → Proper t → Longest (spelling t) s → Ahead (spelling t ++ s) (spelling t) (token-front t)
 token-ahead t s p l = go (front (spelling t ++ s)) refl (front-sound (spelling t ++ s)) (covers t s p (l .no-comment))
   where
     go : (f : Front) → front (spelling t ++ s) ≡ f → Sound (spelling t ++ s) f → Covers f t → Ahead (spelling t ++ s) (spelling t) (token-front t)
@@ -59,12 +59,12 @@ unfolding lex
 lex-past [] s = refl
 lex-past (b ∷ u) s = lex-past u s
 
-lex-gap : (u s : List ℕ) → Ahead (u ++ s) u gap-front → lex 0 (u ++ s) ≡ lex 0 s
+pub lex-gap : (u s : List ℕ) → Ahead (u ++ s) u gap-front → lex 0 (u ++ s) ≡ lex 0 s
 unfolding lex taken
 lex-gap [] s a = absurd (omega (arith, a .sized))
 lex-gap (b ∷ u) s a = rw (a .met) (ap (λ n. lex n (u ++ s)) (omega (arith, a .sized)) ∙ lex-past u s)
 
-lex-token : (t : Token) (u s : List ℕ) → Ahead (u ++ s) u (token-front t) → lex 0 (u ++ s) ≡ added t (lex 0 s)
+pub lex-token : (t : Token) (u s : List ℕ) → Ahead (u ++ s) u (token-front t) → lex 0 (u ++ s) ≡ added t (lex 0 s)
 unfolding lex taken
 lex-token t [] s a = absurd (omega (arith, a .sized))
 lex-token t (b ∷ u) s a = rw (a .met) (ap (added t) (ap (λ n. lex n (u ++ s)) (omega (arith, a .sized)) ∙ lex-past u s))
@@ -78,7 +78,7 @@ lexed-read (token {s = s} t p l e r) = rw (← e) (lex-token t (spelling t) s (t
 -- What is found stands ------------------------------------------------------------------------
 
 -- what is found is the longest token
-longest : (x : List ℕ) (t : Token) (n : ℕ) → front x ≡ token-front t n → At x t n → (Comment x → ⊥) → Longest (spelling t) (drop (suc n) x)
+pub longest : (x : List ℕ) (t : Token) (n : ℕ) → front x ≡ token-front t n → At x t n → (Comment x → ⊥) → Longest (spelling t) (drop (suc n) x)
 longest x t n e a c =
     record {
       no-comment = λ d. c (rw (a .whole) at d);
@@ -92,6 +92,13 @@ longest x t n e a c =
         let z = a .sized in
         omega arith
 
+-- a token that is found ends inside the text
+pub token-inside : (b : ℕ) (s : List ℕ) (t : Token) (n : ℕ) → At (b ∷ s) t n → n ≤ length s
+token-inside b s t n a =
+    let y = a .sized in
+    let w = ap length (a .whole) in
+    omega (arith, length-append (spelling t) (drop n s), length-drop n s)
+
 pub read-lexed : (x : List ℕ) (k : ℕ) (ts : List Token) → k ≤ length x → lex k x ≡ some ts → Lexed (drop k x) ts
 unfolding lex taken added
 read-lexed [] zero ts h e = let f : [] ≡ ts = cc in rw (← f) end
@@ -103,17 +110,11 @@ read-lexed (b ∷ s) zero ts h e = go (front (b ∷ s)) refl (front-sound (b ∷
         → ((k : ℕ) (us : List Token) → k ≤ length s → lex k s ≡ some us → Lexed (drop k s) us) → Lexed (b ∷ s) ts
     go (token-front t n) q (token-sound a c) r rec = more (lex n s) refl r
       where
-        size : n ≤ length s
-        size =
-            let y = a .sized in
-            let w = ap length (a .whole) in
-            omega (arith, length-append (spelling t) (drop n s), length-drop n s)
-
         more : (o : Option (List Token)) → lex n s ≡ o → added t o ≡ some ts → Lexed (b ∷ s) ts
         more none f g = absurd (let z : _≡_ {A = ℕ} 0 1 = cc in omega arith)
         more (some us) f g =
             let w : t ∷ us ≡ ts = cc in
-            rw (← w) (token t (a .proper) (longest (b ∷ s) t n q a c) (a .whole) (rec n us size f))
+            rw (← w) (token t (a .proper) (longest (b ∷ s) t n q a c) (a .whole) (rec n us (token-inside b s t n a) f))
     go (gap-front n) q (gap-sound g l) r rec = gap (take (suc n) (b ∷ s)) g (take-append-drop (suc n) (b ∷ s)) (rec n ts (omega arith) r)
     go nothing q c r rec = absurd (let z : _≡_ {A = ℕ} 0 1 = cc in omega arith)
 

@@ -9,6 +9,7 @@ use native.Mathlib.Omega.{arith}
 use Rattle.layout.specs.State.{state-of}
 use Rattle.interpreter.specs.Moving.{moves-left}
 use Rattle.interpreter.specs.Running.{Led}
+use Rattle.interpreter.specs.Laws.DueLaws.{none-due, some-due}
 use Rattle.interpreter.specs.Laws.SettleWays.{led-none, led-held, led-ended, led-within, led-movable, led-less, led-more}
 use Rattle.interpreter.proofs.moving.settle.Statement.{statement}
 use Rattle.interpreter.proofs.moving.settle.Tie as tie
@@ -33,6 +34,10 @@ at-advance c = c .before .before
 abbrev then1 : tie.After-advance Inv-loop μ-loop → tie.Then1 Inv-loop μ-loop
 then1 c = c .before .before .before .before
 
+-- where no turn is due nobody holds commands
+nobody : (c : tie.Then1 Inv-loop μ-loop) → at-loop c .loop .next .numbers .holding ≡ 0
+nobody c = none-due (at-loop c .loop .next .numbers) _ (c .before .due .ensures) (c .if1 .taken)
+
 loop-holds : tie.Need-loop-holds Inv-loop μ-loop
 loop-holds c = (refl, led-none)
 
@@ -43,7 +48,7 @@ shared-slice-read-if2 : tie.Need-shared-slice-read-if2 Inv-loop μ-loop
 shared-slice-read-if2 c = led-within (at-loop (c .before) .loop .inv .1) (start (at-loop (c .before)) .pre)
 
 returns : tie.Need-returns Inv-loop μ-loop
-returns c = let held = c .before .before in led-ended (at-loop held .loop .inv .1) (held .if1 .taken) (c .if2 .taken)
+returns c = let held = c .before .before in led-ended (at-loop held .loop .inv .1) (nobody held) (c .if2 .taken)
 
 advance-requires : tie.Need-advance-requires Inv-loop μ-loop
 advance-requires c κs =
@@ -58,13 +63,13 @@ loop-less c =
 loop-again : tie.Need-loop-again Inv-loop μ-loop
 loop-again c =
     let a = at-advance c in let l = at-loop (then1 a) in
-    (search needs, led-more (l .loop .inv .1) (start l .pre) (a .before .before .if2 .left) (a .advance .ensures) (then1 a .if1 .taken))
+    (search needs, led-more (l .loop .inv .1) (start l .pre) (a .before .before .if2 .left) (a .advance .ensures) (nobody (then1 a)))
 
 returns-2 : tie.Need-returns-2 Inv-loop μ-loop
-returns-2 c = led-held (c .before .before .loop .inv .1) (omega (arith, c .if1 .left))
+returns-2 c = led-held (c .before .before .loop .inv .1) (some-due (c .before .before .loop .next .numbers) _ (c .before .due .ensures) (c .if1 .left))
 
 pub settle-spec : {M : Type 1} → statement M
 settle-spec =
     tie.close
-    (tie.spec Inv-loop μ-loop loop-holds mul-if2 shared-slice-read-if2 (λ c. search needs) returns advance-requires loop-less loop-again
+    (tie.spec Inv-loop μ-loop loop-holds (λ c κs. search needs) mul-if2 shared-slice-read-if2 (λ c. search needs) returns advance-requires loop-less loop-again
     (λ c. search needs) returns-2)
