@@ -86,7 +86,9 @@ static void print_table(size_t length) {
         const uint8_t *types = parameters_of(records[at]);
         printf("%lu %u", label, (unsigned)records[at]);
         at = audala_get_record(records, length, at, values, types[0]);
-        for (uint8_t k = 0; at != 0 && k < types[0]; k++) printf(" %lld", types[1 + k] == AUDALA_INT ? (long long)audala_to_int(values[k]) : (long long)values[k]);
+        for (uint8_t k = 0; at != 0 && k < types[0]; k++) {
+            printf(" %lld", types[1 + k] == AUDALA_INT ? (long long)audala_to_int(values[k]) : (long long)values[k]);
+        }
         printf("\n");
     }
 }
