@@ -1,10 +1,11 @@
 #!/usr/bin/env python3
-"""Brings the repository's own definitions and lemmas to snake case: a dash in a name of specs/, or in one that a proof file declares, becomes an underscore.
+"""Brings the repository's own definitions and lemmas to snake case: a dash in a name of specs/, or in one that a proof file declares, becomes an underscore; a type's name is joined in
+camel case.
 
 usage: respell.py [--check] [ROOT]
 
 Run once, after the kit's port.py and before any edit by hand. A name that a file has from a library of the kit keeps its dashes, and so does a name that the prover makes from code.
-A name that begins with a type keeps them too. In source files only clauses and ghost imports are turned, in comments and pages only what stands between backticks. It stops where two names of one file would fall together.
+In source files only clauses and ghost imports are turned, in comments and pages only what stands between backticks. It stops where two names of one file would fall together.
 Needs python3 and no network.
 """
 import re
@@ -16,14 +17,21 @@ NAME = r"[^\s(){}.;,@\"«»\[\]\\`|/:]+"
 TOKEN = re.compile(r"«[^»]*»|\"(?:[^\"\\]|\\.)*\"|" + NAME)
 COMMENT = re.compile(r"(^|\s)--(\s.*|-*)?$")
 DASHED = re.compile(r"^[^\W\d_A-Z](?:[\w'₀-₉]*-)+[\w'₀-₉]+$")
+# A type of a library whose members are lemmas.
+MEMBERS = {"Memᴰ"}
+# A type or a constructor; a row that begins with the letter of its program keeps its dash.
+CAMEL = re.compile(r"^[A-Z][a-z][\w']*(?:-[^\W\d_][\w']*)+$")
 USE = re.compile(r"^(?:pub\s+)?use\s+(\S+?)(?:\.\{(.*?)\})?(?:\s+as\s+\S+)?\s*$", re.S)
 
 
 def dashed(token):
-    return bool(DASHED.match(token))
+    return bool(DASHED.match(token) or CAMEL.match(token))
 
 
 def snake(token):
+    """A name as it is spelled now: a type in camel case, anything else in snake case."""
+    if token[0].isupper():
+        return "".join(part[0].upper() + part[1:] for part in token.split("-"))
     return token.replace("-", "_")
 
 
@@ -52,13 +60,19 @@ def libraries(text, crates):
     return names
 
 
-def turned(text, chosen, taken):
+def of_library(text, at, heads):
+    """Whether the token at a place is a member of a name from a library, as `not-nil` in `Memᴰ.not-nil`."""
+    m = re.search(r"([^\s(){}.;,@]+)\.$", text[max(0, at - 60):at])
+    return bool(m) and (m.group(1) in heads or m.group(1) in MEMBERS)
+
+
+def turned(text, chosen, taken, heads=frozenset()):
     """A text with its chosen names turned; taken has, for each name that stands there afterwards, the one from which it came."""
     def turn(m):
         token = m.group()
         if token[0] in "\"«":
             return token
-        new = snake(token) if token in chosen else token
+        new = snake(token) if token in chosen and not of_library(text, m.start(), heads) else token
         if (dashed(token) or "_" in token) and text[m.start() - 1:m.start()] != "." and text[m.end():m.end() + 1] != ".":
             taken.setdefault(new, set()).add(token)
         return new
@@ -69,11 +83,11 @@ def in_backticks(text, chosen):
     return re.sub(r"`[^`\n]*`", lambda m: turned(m.group(), chosen, {}), text)
 
 
-def antt(text, chosen, taken):
+def antt(text, chosen, taken, heads):
     out = []
     for line in text.split("\n"):
         body, comment = split(line)
-        out.append(turned(body, chosen, taken) + in_backticks(comment, chosen))
+        out.append(turned(body, chosen, taken, heads) + in_backticks(comment, chosen))
     return "\n".join(out)
 
 
@@ -113,7 +127,8 @@ def main():
     own, texts = set(), {f: f.read_text() for f in specs + proofs}
     library = {f: libraries(t, crates) for f, t in texts.items()}
     for f in specs:
-        tokens = {t for t in TOKEN.findall(code(texts[f])) if dashed(t)}
+        text = code(texts[f])
+        tokens = {m.group() for m in TOKEN.finditer(text) if dashed(m.group()) and not of_library(text, m.start(), library[f])}
         own |= tokens - library[f]
     helpers = {f: {n for n in declared(texts[f]) if dashed(n)} for f in proofs}
     wrong = 0
@@ -130,7 +145,7 @@ def main():
     for f in specs + proofs:
         taken = {}
         chosen = (own | helpers.get(f, set())) - library[f]
-        put(f, texts[f], antt(texts[f], chosen, taken), taken)
+        put(f, texts[f], antt(texts[f], chosen, taken, library[f]), taken)
     for f in files:
         if f.suffix == ".rt":
             text, taken = f.read_text(), {}

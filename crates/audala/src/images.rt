@@ -8,7 +8,7 @@ use blocks::{Read, Written};
 
 // What reading or writing an image answers: a number, and how many bytes of the stream or blocks of the image were written, 0 after a refusal.
 #[repr(C)]
-#[derive(Drop)]
+#[derive(Clone, Copy)]
 pub struct Copied {
     pub number: u32,
     pub count: usize,

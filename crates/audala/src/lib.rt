@@ -1,5 +1,6 @@
 // The checker, the run and the reader of program text as a static library for C and Rust (01, 'Numbers from the input', 'Numbers from the state';
 // 02 §1); include/audala.h declares it.
+#![tactic(auto)]
 pub mod images;
 pub mod listings;
 pub mod places;
@@ -15,7 +16,7 @@ ghost use Rattle.audala.specs.Exported.{exported, exported_part, exported_report
 
 // What a check answers; after a refusal all but the number are 0.
 #[repr(C)]
-#[derive(Drop)]
+#[derive(Clone, Copy)]
 pub struct Answer {
     pub number: u32,
     pub structs: u32,
@@ -42,7 +43,7 @@ pub extern "C" fn audala_check(image: &[u8], list: &mut [u64]) -> Answer
 
 // The number of a refusal, else 0; where a part of the list begins, and how many places it has.
 #[repr(C)]
-#[derive(Drop)]
+#[derive(Clone, Copy)]
 pub struct Part {
     pub number: u32,
     pub start: u32,
@@ -64,7 +65,7 @@ pub extern "C" fn audala_step(image: &[u8], list: &[u64], structure: u8, name: u
 
 // What a run answers; after a number from the input all but the number are 0.
 #[repr(C)]
-#[derive(Drop)]
+#[derive(Clone, Copy)]
 pub struct Report {
     pub number: u32,
     pub turns: u32,

@@ -4,7 +4,7 @@ ghost use Rattle.text_place.specs.Place.{place};
 
 // How many bytes of the text are before the place.
 #[repr(C)]
-#[derive(Drop)]
+#[derive(Clone, Copy)]
 pub struct Stopped {
     pub at: usize,
 }

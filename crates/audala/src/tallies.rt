@@ -5,7 +5,7 @@ ghost use Rattle.audala.specs.Counted.{exported_counts};
 
 // What a count answers; after a number from the input all but the number are 0.
 #[repr(C)]
-#[derive(Drop)]
+#[derive(Clone, Copy)]
 pub struct Counts {
     pub number: u32,
     pub truths: u32,

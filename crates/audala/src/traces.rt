@@ -6,7 +6,7 @@ ghost use Rattle.audala.specs.Exported.{exported_page};
 
 // What a page answers: the number and the turns of the run, how many bytes the whole text of its trace has, and how many of them were written.
 #[repr(C)]
-#[derive(Drop)]
+#[derive(Clone, Copy)]
 pub struct Traced {
     pub number: u32,
     pub turns: u32,

@@ -1,4 +1,5 @@
 // Reads cases on standard input and answers each by a line (docs/CASES.md). A malformed case ends the program, with a line on standard error.
+#![tactic(auto)]
 ghost use Rattle.std.specs.Prelude.{◌≤◌, length};
 ghost use Rattle.audala_cases.specs.Within.{Within};
 
@@ -6,14 +7,14 @@ use libc::STDIN_FILENO;
 use text::lines;
 
 // A number that was read and is within its bound.
-#[derive(Drop)]
+#[derive(Clone, Copy)]
 enum Size {
     Of(usize),
     Nothing,
 }
 
 // What came of a case: it was answered; it is cut short or no case; or there is none, or no answer could be written.
-#[derive(Drop)]
+#[derive(Clone, Copy)]
 enum Outcome {
     Answered,
     Malformed,

@@ -1,5 +1,6 @@
 // Reads a stream as decimal numbers on standard input and writes its image on standard output (01, 'Blocks'; docs/FORMAT.md, 'Numbers as text').
 // Where there is none, a line on standard error says why and nothing is written.
+#![tactic(auto)]
 use blocks::Written;
 use numbers::{Bytes, Scanned};
 

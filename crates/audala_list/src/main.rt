@@ -1,4 +1,5 @@
 // Reads a program image on standard input and prints its listing, or `refused n` (01, 'Bench rows').
+#![tactic(auto)]
 use listing::image;
 
 fn main() {

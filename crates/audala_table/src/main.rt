@@ -1,4 +1,5 @@
 // A table image as text, and text as a table image (docs/FORMAT.md, 'Tables as text'). Program, table and text are in files that arguments name.
+#![tactic(auto)]
 use blocks::{Read, Written};
 use directory::rows::ROWS;
 use load::Load;

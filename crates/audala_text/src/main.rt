@@ -1,5 +1,6 @@
 // Reads program text on standard input and writes its image on standard output (02 §1; docs/FORMAT.md, 'Program text'). A text that is refused is told on
 // standard error with its number and, of 15, 16 and 17, the place at which reading stopped; nothing is written.
+#![tactic(auto)]
 
 ghost use Rattle.std.specs.Prelude.{◌+◌, ◌≤◌, ◌<◌};
 
@@ -20,7 +21,7 @@ fn put(image: &[u8], n: u32) {
 }
 
 // A line and a column, both from 1.
-#[derive(Drop)]
+#[derive(Clone, Copy)]
 struct Spot {
     line: u64,
     column: u64,

@@ -1,4 +1,5 @@
 // One block of an image (01, 'Blocks'): its sums, the tests of which a failed one is a fault, its payload; and the block that holds given bytes.
+#![tactic(auto)]
 pub mod put;
 pub mod writing;
 
@@ -15,7 +16,7 @@ pub const PAYLOAD_SIZE: usize = 504;
 pub const SUMMED: usize = 508;
 
 // What is wrong with an image.
-#[derive(Drop)]
+#[derive(Clone, Copy)]
 pub enum Fault {
     Length,
     Sum,
@@ -23,14 +24,14 @@ pub enum Fault {
 }
 
 // What looking through a block or an image finds.
-#[derive(Drop)]
+#[derive(Clone, Copy)]
 pub enum Found {
     Right,
     Wrong(Fault),
 }
 
 // The two sums of a block.
-#[derive(Drop)]
+#[derive(Clone, Copy)]
 pub struct Both {
     pub a: u16,
     pub b: u16,

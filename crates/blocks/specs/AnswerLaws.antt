@@ -17,8 +17,8 @@ use Rattle.blocks.specs.FaultLaws.{fault_says}
 use Rattle.block.specs.declared.Found.{Found}
 use Rattle.block.specs.declared.Found.TheVariants.{Right, Wrong}
 use Rattle.blocks.specs.declared.Read.{Read}
-use Rattle.blocks.specs.declared.Read.TheVariants.{Stream, Short as Short-buffer}
-use Rattle.blocks.specs.declared.Written.TheVariants.{Blocks, Length as Wrong-length, Short as Short-output}
+use Rattle.blocks.specs.declared.Read.TheVariants.{Stream, Short as ShortBuffer}
+use Rattle.blocks.specs.declared.Written.TheVariants.{Blocks, Length as WrongLength, Short as ShortOutput}
 
 pub read_says : (max : ℕ) (x : List ℕ) (room : ℕ) → ReadSays max x room (read max x room)
 unfolding read read_of
@@ -27,7 +27,7 @@ read_says max x room = go (fault max x) refl
     n : ℕ
     n = length (stream x)
 
-    fits : fault max x ≡ Right → (t : Bool) → ltb room n ≡ t → ReadSays max x room (elim t [ true ↦ Short-buffer | false ↦ Stream n ])
+    fits : fault max x ≡ Right → (t : Bool) → ltb room n ≡ t → ReadSays max x room (elim t [ true ↦ ShortBuffer | false ↦ Stream n ])
     fits e true p = (e, ltb-true room n p)
     fits e false p = (e, refl, ltb-false room n p)
 
@@ -40,15 +40,15 @@ unfolding write
 write_says max n room = go (stream_exact max n)
   where
     fits : StreamRight max n → (t : Bool) → ltb room (block_size * pieces n) ≡ t
-        → WriteSays max n room (elim t [ true ↦ Short-output | false ↦ Blocks (pieces n) ])
+        → WriteSays max n room (elim t [ true ↦ ShortOutput | false ↦ Blocks (pieces n) ])
     fits r true p = (r, ltb-true room (block_size * pieces n) p)
     fits r false p = (r, refl, ltb-false room (block_size * pieces n) p)
 
     go : {t : Bool} → Reflects (StreamRight max n) t
         → WriteSays max n room
         (elim t [
-          | false ↦ Wrong-length
-          | true ↦ elim (ltb room (block_size * pieces n)) [ true ↦ Short-output | false ↦ Blocks (pieces n) ]
+          | false ↦ WrongLength
+          | true ↦ elim (ltb room (block_size * pieces n)) [ true ↦ ShortOutput | false ↦ Blocks (pieces n) ]
         ])
     go (fails n) = n
     go (holds h) = fits h (ltb room (block_size * pieces n)) refl

@@ -22,7 +22,7 @@ use Rattle.blocks.specs.FaultLaws.{length_exact, fault_says}
 use Rattle.block.specs.declared.Fault.{Fault}
 use Rattle.block.specs.declared.Fault.TheVariants.{Length}
 use Rattle.block.specs.declared.Found.TheVariants.{Right, Wrong}
-use Rattle.blocks.specs.declared.Read.TheVariants.{Stream, Refused, Short as Short-buffer}
+use Rattle.blocks.specs.declared.Read.TheVariants.{Stream, Refused, Short as ShortBuffer}
 
 -- The length of an image ---------------------------------------------------------
 
@@ -135,7 +135,7 @@ module _ (max : ℕ) (x : List ℕ) where
     unfolding read read_of
     read_refused f e = rw e
 
-    pub read_short : (n : ℕ) → fault max x ≡ Right → n ≡ length (stream x) → room < n → Short-buffer ≡ read max x room
+    pub read_short : (n : ℕ) → fault max x ≡ Right → n ≡ length (stream x) → room < n → ShortBuffer ≡ read max x room
     unfolding read read_of
     read_short n e en h = rw (e, read_of, ← en, lt-ltb room n h)
 

@@ -9,11 +9,11 @@ use Rattle.block.specs.declared.Fault.TheVariants.{Length, Sum, Layout}
 use Rattle.block.specs.declared.Found.{Found}
 use Rattle.block.specs.declared.Found.TheVariants.{Right, Wrong}
 use Rattle.blocks.specs.declared.Read.{Read}
-use Rattle.blocks.specs.declared.Read.TheVariants.{Stream, Refused, Short as Short-buffer}
+use Rattle.blocks.specs.declared.Read.TheVariants.{Stream, Refused, Short as ShortBuffer}
 use Rattle.blocks.specs.declared.Opened.{Opened}
 use Rattle.blocks.specs.declared.Opened.TheVariants.{Stream as Open, Refused as Shut}
 use Rattle.blocks.specs.declared.Written.{Written}
-use Rattle.blocks.specs.declared.Written.TheVariants.{Blocks, Length as Wrong-length, Short as Short-output}
+use Rattle.blocks.specs.declared.Written.TheVariants.{Blocks, Length as WrongLength, Short as ShortOutput}
 
 -- how many blocks an image may have where max are allowed: an index has two bytes, so 65,536 at most
 abbrev pub most : ℕ → ℕ
@@ -61,7 +61,7 @@ stream x = joined x (count x)
 -- what reading an image into a buffer of that many bytes answers: a fault before a buffer that is too short
 unfoldable pub read_of : Found → ℕ → ℕ → Read
 read_of (Wrong f) n room = Refused f
-read_of Right n room = elim (ltb room n) [ true ↦ Short-buffer | false ↦ Stream n ]
+read_of Right n room = elim (ltb room n) [ true ↦ ShortBuffer | false ↦ Stream n ]
 
 unfoldable pub read : ℕ → List ℕ → ℕ → Read
 read max x room = read_of (fault max x) (length (stream x)) room
@@ -70,7 +70,7 @@ read max x room = read_of (fault max x) (length (stream x)) room
 unfoldable pub read_into : Read → List ℕ → List ℕ → List ℕ
 read_into (Stream n) s buffer = s ++ drop n buffer
 read_into (Refused f) s buffer = buffer
-read_into Short-buffer s buffer = buffer
+read_into ShortBuffer s buffer = buffer
 
 -- what opening an image answers, where the buffer has room for the payloads of as many blocks as are allowed; the buffer after it; the fault of a
 -- refusal, and Length where there is none
@@ -111,15 +111,15 @@ stream_right max n = leb 1 n && leb n (payload_size * most max)
 unfoldable pub write : ℕ → ℕ → ℕ → Written
 write max n room =
     elim (stream_right max n) [
-      | false ↦ Wrong-length
-      | true ↦ elim (ltb room (block_size * pieces n)) [ true ↦ Short-output | false ↦ Blocks (pieces n) ]
+      | false ↦ WrongLength
+      | true ↦ elim (ltb room (block_size * pieces n)) [ true ↦ ShortOutput | false ↦ Blocks (pieces n) ]
     ]
 
 -- the output after it: the image in front where the answer is a number of blocks, its other bytes untouched
 unfoldable pub written_into : Written → List ℕ → List ℕ → List ℕ
 written_into (Blocks n) s out = image s ++ drop (block_size * n) out
-written_into Wrong-length s out = out
-written_into Short-output s out = out
+written_into WrongLength s out = out
+written_into ShortOutput s out = out
 
 -- 01's numbers of a program image's faults, and of a table image's -------------------
 

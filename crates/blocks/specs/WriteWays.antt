@@ -11,7 +11,7 @@ use Rattle.block.specs.Laws.BlockRoundTrip.{block_length}
 use Rattle.blocks.specs.Images.{most, piece, pieces, image_of, image, stream_right, write, written_into}
 use Rattle.blocks.specs.ImageLaws.{image_length, piece_fits}
 use Rattle.blocks.specs.Answers.{StreamRight}
-use Rattle.blocks.specs.declared.Written.TheVariants.{Blocks, Length as Wrong-length, Short as Short-output}
+use Rattle.blocks.specs.declared.Written.TheVariants.{Blocks, Length as WrongLength, Short as ShortOutput}
 
 -- Pieces --------------------------------------------------------------------------
 
@@ -53,11 +53,11 @@ module _ (max n : ℕ) where
   right_stream t e f = (reflects_iff (stream_exact max n)).0 (sym e ∙ f)
 
   module _ (room : ℕ) (t : Bool) (e : t ≡ stream_right max n) where
-    pub write_refused : t ≡ false → Wrong-length ≡ write max n room
+    pub write_refused : t ≡ false → WrongLength ≡ write max n room
     unfolding write
     write_refused f = rw (sym e ∙ f, write)
 
-    pub write_short : t ≡ true → room < 512 * pieces n → Short-output ≡ write max n room
+    pub write_short : t ≡ true → room < 512 * pieces n → ShortOutput ≡ write max n room
     unfolding write
     write_short f h = rw (sym e ∙ f, write, lt-ltb room (512 * pieces n) h)
 

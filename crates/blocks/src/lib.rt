@@ -1,6 +1,7 @@
 // Images of blocks and their streams, for any number of blocks (01, 'Blocks'): what is wrong with an image, the stream of an image, the image of a
 // stream. Both work in memory that the caller lends, and a refusal writes nothing there. A caller says how many blocks are allowed; where it says more
 // than 65,536, the number of indices that two bytes hold, that many are.
+#![tactic(auto)]
 mod reading;
 mod writing;
 
@@ -16,7 +17,7 @@ pub const BLOCK_SIZE: usize = block::BLOCK_SIZE;
 pub const PAYLOAD_SIZE: usize = block::PAYLOAD_SIZE;
 
 // What reading an image answers: the stream's length, with the stream in the buffer; or why nothing was written.
-#[derive(Drop)]
+#[derive(Clone, Copy)]
 pub enum Read {
     Stream(usize),
     Refused(Fault),
@@ -24,14 +25,14 @@ pub enum Read {
 }
 
 // What opening an image answers: the stream's length, with the stream in the buffer; or the image's fault, and nothing was written.
-#[derive(Drop)]
+#[derive(Clone, Copy)]
 pub enum Opened {
     Stream(usize),
     Refused(Fault),
 }
 
 // What writing a stream answers: the number of blocks, with the image in the output; or why nothing was written.
-#[derive(Drop)]
+#[derive(Clone, Copy)]
 pub enum Written {
     Blocks(usize),
     Length,

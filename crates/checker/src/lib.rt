@@ -1,4 +1,5 @@
 // The checker: a program image to a number, counts and depth, and its commands to a lent list (01, numbers 1 to 8 and 13).
+#![tactic(auto)]
 ghost use Rattle.std.specs.Prelude.{◌≡◌};
 ghost use Rattle.verdict.specs.Verdict.{refusal, check_verdict, check_list};
 ghost use Rattle.checker.specs.Answer.{answer, approved};
@@ -10,7 +11,7 @@ use load::{Load, Loaded};
 pub const SHORT_LIST: u8 = types::number::NO_ROOM;
 
 // What checking answers: the number, and of an accepted program how many structs, steps and commands it has, and its depth.
-#[derive(Drop)]
+#[derive(Clone, Copy)]
 pub struct Verdict {
     pub number: u8,
     pub structs: u8,

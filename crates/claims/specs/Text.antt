@@ -3,7 +3,7 @@ use Rattle.std.specs.Prelude.{ℕ, ◌*◌, ◌≤◌, ◌≡◌, ◌↔◌, Lis
 use Rattle.types.specs.Limits.{program_blocks, max_commands}
 use Rattle.types.specs.Numbers.{wrong_byte, wrong_names, no_derivation}
 use Rattle.types.specs.Orders.{NoneOf, Foremost}
-use Rattle.types.specs.Stages.{Stage.stopped as Checked-Refused, Stage.went as written, Stage.stopped as refused}
+use Rattle.types.specs.Stages.{Stage.stopped as CheckedRefused, Stage.went as written, Stage.stopped as refused}
 use Rattle.block.specs.Block.{block_size}
 use Rattle.blocks.specs.Images.{image, pieces}
 use Rattle.program.specs.Tree.{Op, Program}
@@ -107,12 +107,12 @@ module _ (x out : List ℕ) where
   text_untouched n e = untouched_law x out n e
 
   -- "nesting apart": to what was written the checker says 5 exactly where it nests deeper than 01's levels,
-  pub text_nesting : (p : Program) → outcome x out ≡ written p → (checked (written_image x out) ≡ Checked-Refused wrong_byte) ↔ (Shallow p → ⊥)
+  pub text_nesting : (p : Program) → outcome x out ≡ written p → (checked (written_image x out) ≡ CheckedRefused wrong_byte) ↔ (Shallow p → ⊥)
   text_nesting p e = deep_exactly x out p e
 
   -- 7 exactly for steps, since 17 has judged all other names: one twice in its struct, or a typed call of one that its struct has not,
   pub text_steps : (p : Program) → outcome x out ≡ written p
-      → (checked (written_image x out) ≡ Checked-Refused wrong_names) ↔ ((Shallow p) × (Within p) × (StepsRight p → ⊥))
+      → (checked (written_image x out) ≡ CheckedRefused wrong_names) ↔ ((Shallow p) × (Within p) × (StepsRight p → ⊥))
   text_steps p e = seven_for_steps x out p e
 
   -- and 0, 5, 6, 7 or 8, no other number

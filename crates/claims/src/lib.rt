@@ -1,1 +1,2 @@
 // The claims stand in specs/.
+#![tactic(auto)]

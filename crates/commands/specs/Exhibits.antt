@@ -17,8 +17,8 @@ use Rattle.commands.specs.Commands.{commands}
 use Rattle.commands.specs.Context.{Ctx, context, body_local, find_step, step_of}
 use Rattle.commands.specs.Names.{Names, declared, Named, names_of_steps, Scheduled, NamesRight}
 use Rattle.commands.specs.Typing.{Takes.arith_int, Leads.arrived, Leads.onward, Reaches, Reaches.from_own, Reaches.from_local, Types}
-use Rattle.commands.specs.Typing.{Types.t_not, Types.t_path, Types.t_int, Types.t_bool, Types.t_this, Types.t_op, Types-all.t_none}
-use Rattle.commands.specs.Typing.{Types-all.t_more, Typed-stmt.t_when, Typed-stmt.t_declare, Typed-stmt.t_update, Typed-stmt.t_create, Typed}
+use Rattle.commands.specs.Typing.{Types.t_not, Types.t_path, Types.t_int, Types.t_bool, Types.t_this, Types.t_op, TypesAll.t_none}
+use Rattle.commands.specs.Typing.{TypesAll.t_more, TypedStmt.t_when, TypedStmt.t_declare, TypedStmt.t_update, TypedStmt.t_create, Typed}
 use Rattle.commands.specs.Typing.{Typed.t_end, Typed.t_next, TypesRight}
 use Rattle.types.specs.TypeBytes.{struct_of}
 use Rattle.commands.specs.Noted.{Note, Note.n_push, Note.n_this, Note.n_not, Note.n_wr, Note.n_get, walk, store, read_path, write_path}
@@ -74,7 +74,7 @@ formed b c s d = (
 -- its names are right, or wrong, as its step's are
 named : (b : Stmts) → Named b 2 [] [] → NamesRight (program b)
 unfolding NamesRight names_of_steps Scheduled
-named b h = (((λ m. Memᴰ.not_nil m, tt), (h, tt), (tt, tt, tt)), ((0, Memᴰ.head refl), tt))
+named b h = (((λ m. Memᴰ.not-nil m, tt), (h, tt), (tt, tt, tt)), ((0, Memᴰ.head refl), tt))
 
 step_named : (b : Stmts) → NamesRight (program b) → Named b 2 [] []
 unfolding NamesRight
@@ -162,7 +162,7 @@ outlived_lacking = record {
   rest = n_this ∷ n_wr 0 0 ∷ [];
   place = tags (ref 0 ∷ []) [] true;
   way = on (over (on start));
-  lacks = λ n. Memᴰ.not_nil n.2;
+  lacks = λ n. Memᴰ.not-nil n.2;
 }
 
 -- its types are right and its names are not: it is refused with 7, and where its if is left out its local was never written
@@ -170,7 +170,7 @@ pub refused_7 : Formed outlived × (NamesRight (program outlived) → ⊥) × Ty
 unfolding Named Names body_local
 refused_7 = (
   outlived_formed,
-  λ h. Memᴰ.not_nil (step_named outlived h).1.0.1,
+  λ h. Memᴰ.not-nil (step_named outlived h).1.0.1,
   typed outlived
       (t_next (t_when t_bool (t_next (t_declare t_int) t_end))
       (t_next (t_update (from_own (onward {k = 0} {x = 0} (omega arith) arrived)) (t_path (from_local arrived))) t_end)),
@@ -222,7 +222,7 @@ joined_named : NamesRight (program joined)
 unfolding Named Names declared
 joined_named =
     named joined (
-      (omega arith, ((tt, (tt, tt)), ((tt, λ m. Memᴰ.not_nil m), ((omega arith, (Memᴰ.head refl, omega arith)), tt)))),
+      (omega arith, ((tt, (tt, tt)), ((tt, λ m. Memᴰ.not-nil m), ((omega arith, (Memᴰ.head refl, omega arith)), tt)))),
       ((omega arith, tt), tt),
     )
 

@@ -73,7 +73,7 @@ module _ (ar : List ℕ) where
     next_height (n_op o) x = ap suc (length-drop 2 x.stack)
     next_height (n_if n) x = length-drop 1 x.stack
 
-    way_depth : {c₀ c : List Note} {x₀ x : Tags} → Way G c₀ x₀ c x
+    way_depth : {c₀ : List Note} {x₀ : Tags} {c : List Note} {x : Tags} → Way G c₀ x₀ c x
         → depth ar (map erase c) 0 (length x.stack) ≤ depth ar (map erase c₀) 0 (length x₀.stack)
     way_depth start = omega arith
     way_depth (on {n = n} {c = c} {x = x} w) =

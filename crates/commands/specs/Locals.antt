@@ -8,12 +8,12 @@ use Rattle.commands.specs.Context.{Ctx}
 mutual
   pub data Declaration : Stmt → ℕ → Ty → Type 0 where
     itself : {t : Ty} {x : ℕ} {e : Expr} → Declaration (declare t x e) x t
-    inside : {x : ℕ} {t : Ty} {e : Expr} {b : Stmts} → Declaration-in b x t → Declaration (when e b) x t
+    inside : {x : ℕ} {t : Ty} {e : Expr} {b : Stmts} → DeclarationIn b x t → Declaration (when e b) x t
 
-  pub data Declaration-in : Stmts → ℕ → Ty → Type 0 where
-    first : {x : ℕ} {t : Ty} {s : Stmt} {b : Stmts} → Declaration s x t → Declaration-in (next s b) x t
-    later : {x : ℕ} {t : Ty} {s : Stmt} {b : Stmts} → Declaration-in b x t → Declaration-in (next s b) x t
+  pub data DeclarationIn : Stmts → ℕ → Ty → Type 0 where
+    first : {x : ℕ} {t : Ty} {s : Stmt} {b : Stmts} → Declaration s x t → DeclarationIn (next s b) x t
+    later : {x : ℕ} {t : Ty} {s : Stmt} {b : Stmts} → DeclarationIn b x t → DeclarationIn (next s b) x t
 
 -- the context has the type of each declaration
-abbrev pub Locals-right : Ctx → Stmts → Type 0
-Locals-right G b = (x : ℕ) (t : Ty) → Declaration-in b x t → t ≡ G.local x
+abbrev pub LocalsRight : Ctx → Stmts → Type 0
+LocalsRight G b = (x : ℕ) (t : Ty) → DeclarationIn b x t → t ≡ G.local x

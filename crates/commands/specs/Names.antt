@@ -15,7 +15,7 @@ Starts n live (loc x) = Memᴰ x live
 unfoldable mutual
   pub Names : Expr → ℕ → List ℕ → Type 0
   Names (inv e) n live = Names e n live
-  Names (make k es) n live = Names-all es n live
+  Names (make k es) n live = NamesAll es n live
   Names (path v vs) n live = Starts n live v
   Names (int_lit w) n live = Unit {0}
   Names (nat_lit w) n live = Unit {0}
@@ -24,9 +24,9 @@ unfoldable mutual
   Names self n live = Unit {0}
   Names (op o a b) n live = Names a n live × Names b n live
 
-  pub Names-all : Exprs → ℕ → List ℕ → Type 0
-  Names-all none n live = Unit {0}
-  Names-all (more e es) n live = Names e n live × Names-all es n live
+  pub NamesAll : Exprs → ℕ → List ℕ → Type 0
+  NamesAll none n live = Unit {0}
+  NamesAll (more e es) n live = Names e n live × NamesAll es n live
 
 -- the locals that statements declare, those of the ifs in them too
 unfoldable mutual
@@ -49,15 +49,15 @@ live_after (create k es) live = live
 
 -- n parameters, these locals alive, these declared before in the step
 unfoldable mutual
-  pub Named-stmt : Stmt → ℕ → List ℕ → List ℕ → Type 0
-  Named-stmt (when e b) n live seen = Names e n live × Named b n live seen
-  Named-stmt (declare t x e) n live seen = Names e n live × (Memᴰ x seen → ⊥)
-  Named-stmt (update v vs e) n live seen = Starts n live v × Names e n live
-  Named-stmt (create k es) n live seen = Names-all es n live
+  pub NamedStmt : Stmt → ℕ → List ℕ → List ℕ → Type 0
+  NamedStmt (when e b) n live seen = Names e n live × Named b n live seen
+  NamedStmt (declare t x e) n live seen = Names e n live × (Memᴰ x seen → ⊥)
+  NamedStmt (update v vs e) n live seen = Starts n live v × Names e n live
+  NamedStmt (create k es) n live seen = NamesAll es n live
 
   pub Named : Stmts → ℕ → List ℕ → List ℕ → Type 0
   Named end n live seen = Unit {0}
-  Named (next s b) n live seen = Named-stmt s n live seen × Named b n (live_after s live) (declares s ++ seen)
+  Named (next s b) n live seen = NamedStmt s n live seen × Named b n (live_after s live) (declares s ++ seen)
 
 -- each stands once
 abbrev pub Once : List ℕ → Type 0
@@ -81,14 +81,14 @@ abbrev pub Had : ℕ → List (List Step) → Type 0
 Had n tss = (k : ℕ) × Memᴰ n (names_of_steps (get_or tss k []))
 
 unfoldable mutual
-  pub Scheduled-item : Item → List (List Step) → Type 0
-  Scheduled-item (call n) tss = Had n tss
-  Scheduled-item (call_in k n) tss = Memᴰ n (names_of_steps (get_or tss k []))
-  Scheduled-item (fix is) tss = Scheduled is tss
+  pub ScheduledItem : Item → List (List Step) → Type 0
+  ScheduledItem (call n) tss = Had n tss
+  ScheduledItem (call_in k n) tss = Memᴰ n (names_of_steps (get_or tss k []))
+  ScheduledItem (fix is) tss = Scheduled is tss
 
   pub Scheduled : Items → List (List Step) → Type 0
   Scheduled stop tss = Unit {0}
-  Scheduled (item i is) tss = Scheduled-item i tss × Scheduled is tss
+  Scheduled (item i is) tss = ScheduledItem i tss × Scheduled is tss
 
 unfoldable pub NamesRight : Program → Type 0
 NamesRight p = (NamedSteps p 0 p.steps) × (Scheduled p.schedule p.steps)

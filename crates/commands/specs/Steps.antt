@@ -26,7 +26,7 @@ of_each C c (Memᴰ.tail m) = of_each C c.1 m
 each_step : (P : ℕ → Step → Type 0) (Q : ℕ → List (List Step) → Type 0)
     → ((j : ℕ) (ts : List Step) (tss : List (List Step)) → Q j (ts ∷ tss) → All (P j) ts × Q (suc j) tss)
     → (j : ℕ) (tss : List (List Step)) (k : ℕ) {t : Step} → Q j tss → Memᴰ t (get_or tss k []) → P (j + k) t
-each_step P Q take j [] k q m = absurd (Memᴰ.not_nil m)
+each_step P Q take j [] k q m = absurd (Memᴰ.not-nil m)
 each_step P Q take j (ts ∷ tss) zero q m = rw add-zero (of_each (P j) (take j ts tss q).0 m)
 each_step P Q take j (ts ∷ tss) (suc k) {t = t} q m =
     rw (add-suc, ← suc-add) (each_step P Q take (suc j) tss k (take j ts tss q).1 m)

@@ -49,7 +49,7 @@ pub data Reaches (G : Ctx) : Var → List ℕ → Ty → Type 0 where
 mutual
   pub data Types (G : Ctx) : Expr → Ty → Type 0 where
     t_not : {e : Expr} → Types G e bool → Types G (inv e) bool
-    t_make : {k : ℕ} {es : Exprs} → Types-all G es (G.params k) → Types G (make k es) (ref k)
+    t_make : {k : ℕ} {es : Exprs} → TypesAll G es (G.params k) → Types G (make k es) (ref k)
     t_path : {v : Var} {vs : List ℕ} {t : Ty} → Reaches G v vs t → Types G (path v vs) t
     t_int : {w : ℕ} → Types G (int_lit w) int
     t_nat : {w : ℕ} → Types G (nat_lit w) nat
@@ -59,20 +59,20 @@ mutual
     t_op : {o : Op} {a b : Expr} {t u : Ty} → Takes (sort o) t u → Types G a t → Types G b t → Types G (op o a b) u
 
   -- one expression per parameter, of its type exactly
-  pub data Types-all (G : Ctx) : Exprs → List Ty → Type 0 where
-    t_none : Types-all G none []
-    t_more : {e : Expr} {es : Exprs} {t : Ty} {ts : List Ty} → Types G e t → Types-all G es ts → Types-all G (more e es) (t ∷ ts)
+  pub data TypesAll (G : Ctx) : Exprs → List Ty → Type 0 where
+    t_none : TypesAll G none []
+    t_more : {e : Expr} {es : Exprs} {t : Ty} {ts : List Ty} → Types G e t → TypesAll G es ts → TypesAll G (more e es) (t ∷ ts)
 
 mutual
-  pub data Typed-stmt (G : Ctx) : Stmt → Type 0 where
-    t_when : {e : Expr} {b : Stmts} → Types G e bool → Typed G b → Typed-stmt G (when e b)
-    t_declare : {t : Ty} {x : ℕ} {e : Expr} → Types G e t → Typed-stmt G (declare t x e)
-    t_update : {v : Var} {vs : List ℕ} {t : Ty} {e : Expr} → Reaches G v vs t → Types G e t → Typed-stmt G (update v vs e)
-    t_create : {k : ℕ} {es : Exprs} → Types-all G es (G.params k) → Typed-stmt G (create k es)
+  pub data TypedStmt (G : Ctx) : Stmt → Type 0 where
+    t_when : {e : Expr} {b : Stmts} → Types G e bool → Typed G b → TypedStmt G (when e b)
+    t_declare : {t : Ty} {x : ℕ} {e : Expr} → Types G e t → TypedStmt G (declare t x e)
+    t_update : {v : Var} {vs : List ℕ} {t : Ty} {e : Expr} → Reaches G v vs t → Types G e t → TypedStmt G (update v vs e)
+    t_create : {k : ℕ} {es : Exprs} → TypesAll G es (G.params k) → TypedStmt G (create k es)
 
   pub data Typed (G : Ctx) : Stmts → Type 0 where
     t_end : Typed G end
-    t_next : {s : Stmt} {b : Stmts} → Typed-stmt G s → Typed G b → Typed G (next s b)
+    t_next : {s : Stmt} {b : Stmts} → TypedStmt G s → Typed G b → Typed G (next s b)
 
 -- the steps of each struct, from struct k on
 abbrev pub TypedSteps : Program → ℕ → List (List Step) → Type 0

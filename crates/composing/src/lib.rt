@@ -1,4 +1,5 @@
 // The stream of a text's steps and schedule, written from its end (02 §1): role by role over lent memory, so that no function follows the nesting of the text.
+#![tactic(auto)]
 mod bytes;
 mod header;
 mod pouring;
@@ -24,7 +25,7 @@ use tokens::kind;
 
 // Where writing stands: the place of the first byte written, how many operators and counts wait, how many numbers are left, the later variables of the path at
 // hand, and whether counts keep to what a stream holds.
-#[derive(Drop)]
+#[derive(Clone, Copy)]
 pub struct Pen {
     pub place: usize,
     pub height: usize,
@@ -34,7 +35,7 @@ pub struct Pen {
 }
 
 // Where a stream begins, or that it is more than a stream holds.
-#[derive(Drop)]
+#[derive(Clone, Copy)]
 pub enum Placed {
     At(usize),
     Over,

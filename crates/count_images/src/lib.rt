@@ -1,5 +1,6 @@
 // How many orders of a step end in which way (02 §14): a program image, a table image, a step name, a label and a parameter to a number and three counts; the
 // commands to the lent list, as a run leaves them there.
+#![tactic(auto)]
 ghost use Rattle.std.specs.Prelude.{◌≡◌, ◌≤◌, ◌<◌, length};
 ghost use Rattle.types.specs.Limits.{max_structs, step_names};
 ghost use Rattle.scheduler.specs.Ready.{spans_size};
@@ -22,7 +23,7 @@ use seating::{Opened, Seat, SeatRead};
 const MOST: usize = 12;
 
 // What a count answers: the number, and how many sequences end with the parameter true, end with it false, and stop with 34 or 35.
-#[derive(Drop)]
+#[derive(Clone, Copy)]
 pub struct Counts {
     pub number: u8,
     pub truths: u32,
@@ -31,7 +32,7 @@ pub struct Counts {
 }
 
 // What is asked: a step name, a label and a parameter.
-#[derive(Drop)]
+#[derive(Clone, Copy)]
 pub struct Question {
     pub name: usize,
     pub label: usize,
@@ -39,7 +40,7 @@ pub struct Question {
 }
 
 // What is asked of a machine that is seated beside a program, whose schedule begins at a place and which has so many steps.
-#[derive(Drop)]
+#[derive(Clone, Copy)]
 pub struct Asking {
     pub seat: Seat,
     pub question: Question,

@@ -10,14 +10,14 @@ use crate::rows;
 use engine::Machine;
 
 // The parameter that is asked about, and its label.
-#[derive(Drop)]
+#[derive(Clone, Copy)]
 pub struct Asked {
     pub label: usize,
     pub parameter: usize,
 }
 
 // How many sequences end with it true, end with it false, and stop with 34 or 35.
-#[derive(Drop)]
+#[derive(Clone, Copy)]
 pub struct Tally {
     pub truths: u32,
     pub falsehoods: u32,

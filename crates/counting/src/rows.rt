@@ -8,7 +8,7 @@ use crate::copies;
 use commands::kind;
 
 // The numbers and cells of the actor and of the row after the last instance, and one cell with its place.
-#[derive(Drop)]
+#[derive(Clone, Copy)]
 pub struct Saved {
     pub actor: [u16; layout::HEAD_SIZE],
     pub fresh: [u16; layout::HEAD_SIZE],

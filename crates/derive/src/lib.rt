@@ -1,5 +1,6 @@
 // Whether a text's tokens have a derivation (02 §1, §2), and the role that it gives each of them: token by token over a lent stack, so that no function follows
 // the nesting of the text.
+#![tactic(auto)]
 pub mod roles;
 pub mod table;
 
@@ -20,7 +21,7 @@ use tokens::kind;
 const KINDS: usize = kind::COUNT as usize;
 
 // A state, and how many places are open on the stack.
-#[derive(Drop)]
+#[derive(Clone, Copy)]
 pub struct Mark {
     pub state: u8,
     pub height: usize,

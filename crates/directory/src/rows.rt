@@ -11,7 +11,7 @@ const ROW_SIZE: usize = 4;
 pub const ROWS: usize = ROW_SIZE * types::MAX_STRUCTS * types::MAX_STEPS;
 
 // A row that is found, or none.
-#[derive(Drop)]
+#[derive(Clone, Copy)]
 pub enum Sought {
     Here(Row),
     Nowhere,

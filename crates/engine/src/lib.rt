@@ -1,4 +1,5 @@
 // The machine of a run (01, 'Table and turns'): a few numbers by value, over the memory that the run is lent.
+#![tactic(auto)]
 ghost use Rattle.std.specs.Prelude.{◌≡◌, List, ℕ, ◌^◌, ◌<◌, length};
 ghost use Rattle.layout.specs.Layout.{head, end_of, holds};
 ghost use Rattle.layout.specs.State.{state_of};
@@ -14,7 +15,7 @@ use execute_stack::Acted;
 use layout::Numbers;
 use scheduler::schedule::advance;
 
-#[derive(Drop)]
+#[derive(Clone, Copy)]
 pub struct Machine {
     pub numbers: Numbers,
 }

@@ -1,1 +1,2 @@
 // Definitions and laws only: every order of a run, counted, lives in specs/.
+#![tactic(auto)]

@@ -1,1 +1,2 @@
 // Rows only: reports of whole runs by computation, in specs/.
+#![tactic(auto)]

@@ -1,5 +1,6 @@
 // The commands that work on the actor's own stack (000, rules ComPush, ComPushThis, ComNot, ComIfT and ComIfF), and what every command is
 // handed and answers. The contracts are equations with `memory/specs/Act.antt`.
+#![tactic(auto)]
 ghost use Rattle.std.specs.Prelude.{◌≡◌, [], ◌+◌, ◌*◌, ◌<◌, length, get_or, set};
 ghost use Rattle.types.specs.Limits.{max_instances, max_depth};
 ghost use Rattle.layout.specs.Layout.{head_size, head_end, row_size, head, struct_of, stacked, going};
@@ -8,7 +9,7 @@ ghost use Rattle.memory.specs.Fit.{PushFit, ThisFit, TruthFit};
 ghost use Rattle.execute_stack.specs.Answers.{Acting, topmost, Does};
 
 // The instance that takes a command: its label, the height of its stack and the place of the command.
-#[derive(Drop)]
+#[derive(Clone, Copy)]
 pub struct Actor {
     pub label: usize,
     pub height: usize,
@@ -17,7 +18,7 @@ pub struct Actor {
 
 // What a command did beside its writes to memory: nothing; it wrote a variable, which multiplies each stability entry by 1 where this is
 // true and else by 0; it made an instance, which makes all entries false; or it was refused with a number, and wrote nothing.
-#[derive(Drop)]
+#[derive(Clone, Copy)]
 pub enum Acted {
     Kept,
     Wrote(bool),

@@ -1,4 +1,5 @@
 // Files that arguments name and the standard streams, read whole into a buffer and written from one. What cannot be done is told on standard error.
+#![tactic(auto)]
 ghost use Rattle.std.specs.Prelude.{◌≡◌, false};
 ghost use Rattle.io.specs.Counts.{IsPrefixLen};
 ghost use Rattle.files.specs.Answers.{AllOrNone};
@@ -6,7 +7,7 @@ ghost use Rattle.files.specs.Answers.{AllOrNone};
 use libc::{STDERR_FILENO, STDIN_FILENO, STDOUT_FILENO};
 
 // Whether all was read, and how many bytes of it stand in the buffer: none where it was not, and why was told.
-#[derive(Drop)]
+#[derive(Clone, Copy)]
 pub struct Loaded {
     pub done: bool,
     pub len: usize,

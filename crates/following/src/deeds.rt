@@ -7,7 +7,7 @@ ghost use Rattle.following.specs.Touching.{deed_of, Low, Topped, top_label, deed
 use commands::kind;
 
 // Nothing, or a parameter is read or written: its label and its number.
-#[derive(Drop)]
+#[derive(Clone, Copy)]
 pub enum Deed {
     Nothing,
     Reads(usize, usize),

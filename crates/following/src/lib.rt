@@ -1,5 +1,6 @@
 // A started step followed on lent memory by the order of zero turn bytes (02 §11): what each command does to the parameters is noted before the command is
 // taken, and where two instances meet at a parameter, one of them by a write, they are told.
+#![tactic(auto)]
 mod deeds;
 mod marks;
 
@@ -20,7 +21,7 @@ const MEETS: u8 = 2;
 
 // What is answered of a step: the number, 0 beside an answer; the answer; the commands taken; and where two instances meet: whose next command would touch,
 // who touched before, and the label and the parameter that both touch.
-#[derive(Drop)]
+#[derive(Clone, Copy)]
 pub struct Answer {
     pub number: u8,
     pub answer: u8,
@@ -32,7 +33,7 @@ pub struct Answer {
 }
 
 // A step between two turns: whether one is due, and if not, the answer; the commands taken so far are there in either case.
-#[derive(Drop)]
+#[derive(Clone, Copy)]
 pub struct Going {
     pub machine: Machine,
     pub due: bool,

@@ -27,14 +27,14 @@ const LABELS: u32 = 256;
 const SECOND: u32 = KINDS * LABELS;
 
 // The word after a touch; or another instance, which it clashes with.
-#[derive(Drop)]
+#[derive(Clone, Copy)]
 pub enum Met {
     Passes(u32),
     Meets(u32),
 }
 
 // What noting a deed comes to: whether it meets another instance; if so, that one, and the label and the parameter where they meet.
-#[derive(Drop)]
+#[derive(Clone, Copy)]
 pub struct Noted {
     pub met: bool,
     pub other: u32,

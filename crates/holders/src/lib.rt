@@ -1,12 +1,13 @@
 // The chosen holder, searched for in a lent slice of instance records (01, 'Table and turns'; 02, 'Turns that go round': "counted from the label
 // after the one that acted last, wrapping past the highest").
+#![tactic(auto)]
 ghost use Rattle.std.specs.Prelude.{◌≡◌, ◌*◌, ◌≤◌, length};
 ghost use Rattle.types.specs.Limits.{max_instances};
 ghost use Rattle.layout.specs.Layout.{head_size};
 ghost use Rattle.holders.specs.Records.{Recorded, holder_in};
 
 // What the search needs of an instance: whether it holds commands.
-#[derive(Drop)]
+#[derive(Clone, Copy)]
 pub struct Record {
     pub holds: bool,
 }

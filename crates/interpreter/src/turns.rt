@@ -10,7 +10,7 @@ use engine::Machine;
 use holders::{Record, holder, records};
 
 // Where a run ends: the machine, the number (0, or 33 to 35), and the turns taken.
-#[derive(Drop)]
+#[derive(Clone, Copy)]
 pub struct Ran {
     pub machine: Machine,
     pub number: u8,
@@ -19,7 +19,7 @@ pub struct Ran {
 
 // A run between two turns: its machine, the turns taken, the number that it stops with, whether a turn is due, which of the holders its
 // byte picks, and the record of the instance that acted last.
-#[derive(Drop)]
+#[derive(Clone, Copy)]
 pub struct Going {
     pub machine: Machine,
     pub taken: usize,

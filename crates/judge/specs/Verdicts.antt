@@ -51,12 +51,12 @@ pub record Fits (c : Scope) (live seen : List ℕ) (L : ℕ → Ty) : Type 0 whe
 
 -- these types are those of the declarations in statements
 unfoldable mutual
-  pub Locals-stmt : (ℕ → Ty) → Stmt → Type 0
-  Locals-stmt L (when e b) = Locals L b
-  Locals-stmt L (declare t x e) = t ≡ L x
-  Locals-stmt L (update v vs e) = Unit {0}
-  Locals-stmt L (create k es) = Unit {0}
+  pub LocalsStmt : (ℕ → Ty) → Stmt → Type 0
+  LocalsStmt L (when e b) = Locals L b
+  LocalsStmt L (declare t x e) = t ≡ L x
+  LocalsStmt L (update v vs e) = Unit {0}
+  LocalsStmt L (create k es) = Unit {0}
 
   pub Locals : (ℕ → Ty) → Stmts → Type 0
   Locals L end = Unit {0}
-  Locals L (next s b) = Locals-stmt L s × Locals L b
+  Locals L (next s b) = LocalsStmt L s × Locals L b

@@ -1,5 +1,6 @@
 // The memory that a run is lent and the numbers of its machine (01, 'Table and turns'): how many numbers and cells an instance has, where
 // each of them stands, and the functions that read and write them. `specs/Layout.antt` and `specs/State.antt` define what is written here.
+#![tactic(auto)]
 pub mod codes;
 
 ghost use Rattle.std.specs.Prelude.{◌≡◌, ◌+◌, ◌*◌, ◌<◌, ◌≤◌, length, get_or};
@@ -35,7 +36,7 @@ pub const CELLS: usize = ROW_SIZE * types::MAX_INSTANCES;
 // The machine's numbers: instances so far, the place in the schedule, open Fixes, their stability entries as bits with the top one lowest,
 // 0 or the number of a refusal, how many instances hold commands (02, 'Holders kept as a number'), and the label from which turns are
 // counted on, the one after that which acted last (02, 'Turns that go round').
-#[derive(Drop)]
+#[derive(Clone, Copy)]
 pub struct Numbers {
     pub count: usize,
     pub place: usize,

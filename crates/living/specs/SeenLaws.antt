@@ -20,7 +20,7 @@ use Rattle.program.specs.Tree.{Stmts.end, Stmts.next}
 use Rattle.commands.specs.Context.{Ctx, typ}
 use Rattle.commands.specs.Decide.{member}
 use Rattle.commands.specs.Decide.DecideLaws.{member_reflects}
-use Rattle.commands.specs.Names.{live_after, declares, Starts, Named-stmt, Named}
+use Rattle.commands.specs.Names.{live_after, declares, Starts, NamedStmt, Named}
 use Rattle.commands.specs.Noted.{Note, Note.n_push, Note.n_this, Note.n_not, Note.n_rd, Note.n_wr, Note.n_get, Note.n_set, Note.n_cons, Note.n_op, Note.n_if}
 use Rattle.commands.specs.Noted.{walk, store, read_path, write_path, note_expr, note_exprs, note_stmt, note_body, noted}
 use Rattle.commands.specs.Living.{live_walk, live_expr, live_exprs, live_stmt, live_body, lives, alive}
@@ -177,9 +177,9 @@ nothing : (c : List Note) (ls : List (List ℕ)) (l : List ℕ) → Finds (lengt
 nothing c ls l k s n b = absurd (omega arith)
 
 mutual
-  unfolding note_stmt live_stmt Named-stmt left_out with_set lives_after
+  unfolding note_stmt live_stmt NamedStmt left_out with_set lives_after
 
-  stmt_finds : (r : ℕ) (G : Ctx) (s : Stmt) (m : ℕ) (l d : List ℕ) → Named-stmt s m l d → (c : List Note) (ls : List (List ℕ)) → r ≤ length c
+  stmt_finds : (r : ℕ) (G : Ctx) (s : Stmt) (m : ℕ) (l d : List ℕ) → NamedStmt s m l d → (c : List Note) (ls : List (List ℕ)) → r ≤ length c
       → Finds r c ls (live_after s l) → Finds r (note_stmt s G c) (live_stmt s l ls) l
   stmt_finds r G (when e b) m l d named c ls few f =
       expr_finds r l G e (n_if (length (note_body b G [])) ∷ note_body b G c) (l ∷ live_body b l ls)

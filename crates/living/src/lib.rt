@@ -1,4 +1,5 @@
 // The locals that live before a command of a step, read off the words of its commands (01, 'Names, types, commands'; 02, 'Pausing a run').
+#![tactic(auto)]
 ghost use Rattle.std.specs.Prelude.{◌≡◌, ◌+◌, ◌≤◌, length};
 ghost use Rattle.living.specs.Walk.{skipped, walk_on, marks_at, locals_of};
 
@@ -25,7 +26,7 @@ fn skipped(w: u64, left: usize, skip: usize) -> usize
 }
 
 // A walk over the commands of a step: how many are left out next, and the marks of the locals.
-#[derive(Drop)]
+#[derive(Clone, Copy)]
 pub struct Walk {
     pub skip: usize,
     pub marks: [u8; LOCALS],

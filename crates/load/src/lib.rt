@@ -1,5 +1,6 @@
 // The loader: a program image to its accepted program, or to the number of its refusal (01, numbers 1 to 8). The stream, the tables of the parameters and the
 // rows of the step directory stand in memory that the caller lends. Every entry that takes a program begins here.
+#![tactic(auto)]
 ghost use Rattle.std.specs.Prelude.{◌≡◌, ◌*◌, ◌≤◌, ◌<◌, length};
 ghost use Rattle.types.specs.Limits.{program_blocks, max_structs, max_params};
 ghost use Rattle.block.specs.Block.{payload_size};
@@ -14,7 +15,7 @@ use read_program::{ProgramRead, Summary};
 
 // What an accepted program is loaded as: how long its stream is, where its steps begin and where its schedule does, how many structs, steps and commands it
 // has, and its depth.
-#[derive(Drop)]
+#[derive(Clone, Copy)]
 pub struct Loaded {
     pub length: usize,
     pub at: usize,
@@ -25,7 +26,7 @@ pub struct Loaded {
     pub depth: u8,
 }
 
-#[derive(Drop)]
+#[derive(Clone, Copy)]
 pub enum Load {
     Program(Loaded),
     Refused(u8),

@@ -11,16 +11,16 @@ use Rattle.machine.specs.Machine.{Tagged, Instance, Machine}
 unfoldable pub values : List Tagged → List Val
 values χ = map (λ x. x.is) χ
 
-abbrev pub Represents-inst : Instance → Inst → Type 0
-Represents-inst i (inst k c χ ξ) =
+abbrev pub RepresentsInst : Instance → Inst → Type 0
+RepresentsInst i (inst k c χ ξ) =
     (i.struct ≡ k) × (map erase i.code ≡ flatten c) × (values i.stack ≡ χ) × (i.env ≡ ξ)
 
 -- place by place, under the same labels
-abbrev pub Represents-all : List Instance → List Inst → Type 0
-Represents-all [] [] = Unit {0}
-Represents-all [] (j ∷ σ) = ⊥
-Represents-all (i ∷ is) [] = ⊥
-Represents-all (i ∷ is) (j ∷ σ) = (Represents-inst i j) × (Represents-all is σ)
+abbrev pub RepresentsAll : List Instance → List Inst → Type 0
+RepresentsAll [] [] = Unit {0}
+RepresentsAll [] (j ∷ σ) = ⊥
+RepresentsAll (i ∷ is) [] = ⊥
+RepresentsAll (i ∷ is) (j ∷ σ) = (RepresentsInst i j) × (RepresentsAll is σ)
 
 abbrev pub Represents : Machine → State → Type 0
-Represents m (state s σ b) = (m.sched ≡ s) × (Represents-all m.instances σ) × (m.stability ≡ b)
+Represents m (state s σ b) = (m.sched ≡ s) × (RepresentsAll m.instances σ) × (m.stability ≡ b)

@@ -1,1 +1,2 @@
 // The definitions and laws of the machine stand in specs/.
+#![tactic(auto)]

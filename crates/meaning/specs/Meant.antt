@@ -47,7 +47,7 @@ pub record Start : Type 0 where
   pub variable_of : Variable
   pub type_of : TypeName
 
-pub record Path-of : Type 0 where
+pub record PathOf : Type 0 where
   pub first : Variable
   pub rest : List ℕ
 
@@ -87,7 +87,7 @@ module _ (ds : List Struct) where
     unfolding started
     start x = started (absent x (map par_id own)) x
 
-    unfoldable pub path_meaning : Var → Option Path-of
+    unfoldable pub path_meaning : Var → Option PathOf
     unfolding then start further referred
     path_meaning (one_id x) = then (start x) (λ s. some (record { first = s.variable_of; rest = [] }))
     path_meaning (dot x v) =

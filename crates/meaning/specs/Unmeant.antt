@@ -64,11 +64,11 @@ module _ (ds : List Struct) where
     no_type : {x : Id} → NoStruct x → NoType (id_type x)
 
   -- a type after whose values nothing is declared
-  pub data Leads-nowhere : TypeName → Type 0 where
-    int_nowhere : Leads-nowhere int_type
-    nat_nowhere : Leads-nowhere nat_type
-    bool_nowhere : Leads-nowhere bool_type
-    no_struct_there : {x : Id} → NoStruct x → Leads-nowhere (id_type x)
+  pub data LeadsNowhere : TypeName → Type 0 where
+    int_nowhere : LeadsNowhere int_type
+    nat_nowhere : LeadsNowhere nat_type
+    bool_nowhere : LeadsNowhere bool_type
+    no_struct_there : {x : Id} → NoStruct x → LeadsNowhere (id_type x)
 
   -- a variable after a dot: the struct before the dot has no such parameter, or the type before it leads nowhere
   mutual
@@ -78,7 +78,7 @@ module _ (ds : List Struct) where
       not_after : {d : Struct} {x : Id} {i : ℕ} {q : Par} {v : Var} → Found par_id x i q (pars_of d) → NotAfter (par_type q) v → NoFurther d (dot x v)
 
     pub data NotAfter : TypeName → Var → Type 0 where
-      leads_nowhere : {t : TypeName} {v : Var} → Leads-nowhere t → NotAfter t v
+      leads_nowhere : {t : TypeName} {v : Var} → LeadsNowhere t → NotAfter t v
       not_in : {x : Id} {k : ℕ} {d : Struct} {v : Var} → Found struct_id x k d ds → NoFurther d v → NotAfter (id_type x) v
 
   -- the first variable is neither a parameter of the struct at hand nor a living local, or what comes after it is not declared there

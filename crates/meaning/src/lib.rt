@@ -1,1 +1,2 @@
 // What program text means: definitions and laws stand in specs/.
+#![tactic(auto)]

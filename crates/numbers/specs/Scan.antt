@@ -9,11 +9,11 @@ use Rattle.numbers.specs.declared.State.TheVariants.{Gap, Sign, Open}
 use Rattle.numbers.specs.declared.Step.{Step}
 use Rattle.numbers.specs.declared.Step.TheVariants.{Go, Number, Stray, Over}
 use Rattle.numbers.specs.declared.Turn.{Turn}
-use Rattle.numbers.specs.declared.Turn.TheVariants.{Next, Strange as Strange-turn, Large as Large-turn, Full}
+use Rattle.numbers.specs.declared.Turn.TheVariants.{Next, Strange as StrangeTurn, Large as LargeTurn, Full}
 use Rattle.numbers.specs.declared.Scanned.{Scanned}
 use Rattle.numbers.specs.declared.Scanned.TheVariants.{Numbers, Strange, Large, Long}
 use Rattle.numbers.specs.declared.Bytes.{Bytes}
-use Rattle.numbers.specs.declared.Bytes.TheVariants.{Count, Large as Large-byte, Long as Long-bytes}
+use Rattle.numbers.specs.declared.Bytes.TheVariants.{Count, Large as LargeByte, Long as LongBytes}
 
 -- a digit, and any other byte
 abbrev pub digit_of : ℕ → Char
@@ -102,8 +102,8 @@ words t = words_from (Gap true) (ended t)
 unfoldable pub turn_of : ℕ → ℕ → Step → Turn
 turn_of room n (Go u) = Next u n
 turn_of room n (Number f m v u) = elim (ltb n room) [ true ↦ Next u (n + 1) | false ↦ Full ]
-turn_of room n Stray = Strange-turn
-turn_of room n Over = Large-turn
+turn_of room n Stray = StrangeTurn
+turn_of room n Over = LargeTurn
 
 unfoldable pub turn_into : List ℕ → ℕ → Step → List ℕ
 turn_into out n (Go u) = out
@@ -114,8 +114,8 @@ turn_into out n Over = out
 -- what a text is answered with after a byte at that place, by what the text behind it is answered with
 unfoldable pub go_on : ℕ → Turn → (State → ℕ → Scanned) → Scanned
 go_on at (Next u m) rest = rest u m
-go_on at Strange-turn rest = Strange at
-go_on at Large-turn rest = Large at
+go_on at StrangeTurn rest = Strange at
+go_on at LargeTurn rest = Large at
 go_on at Full rest = Long
 
 -- a text from a place on, where n words stand
@@ -142,6 +142,6 @@ unfoldable pub bytes_answer : ℕ → ℕ → List ℕ → Bytes
 bytes_answer room i [] = Count i
 bytes_answer room i (w ∷ ws) =
     elim (ltb (unmarked w) 256) [
-      | false ↦ Large-byte (i + 1)
-      | true ↦ elim (ltb i room) [ true ↦ bytes_answer room (i + 1) ws | false ↦ Long-bytes ]
+      | false ↦ LargeByte (i + 1)
+      | true ↦ elim (ltb i room) [ true ↦ bytes_answer room (i + 1) ws | false ↦ LongBytes ]
     ]

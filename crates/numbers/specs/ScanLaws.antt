@@ -11,7 +11,7 @@ use Rattle.numbers.specs.declared.State.{State}
 use Rattle.numbers.specs.declared.Step.{Step}
 use Rattle.numbers.specs.declared.Step.TheVariants.{Go, Number, Stray, Over}
 use Rattle.numbers.specs.declared.Turn.{Turn}
-use Rattle.numbers.specs.declared.Turn.TheVariants.{Next, Strange as Strange-turn, Large as Large-turn, Full}
+use Rattle.numbers.specs.declared.Turn.TheVariants.{Next, Strange as StrangeTurn, Large as LargeTurn, Full}
 use Rattle.numbers.specs.declared.Scanned.{Scanned}
 use Rattle.numbers.specs.declared.Scanned.TheVariants.{Numbers, Strange, Large, Long}
 

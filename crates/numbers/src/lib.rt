@@ -1,5 +1,6 @@
 // Numbers in decimal from text: blanks, tabs, commas and line ends part them, a minus sign may stand before one. A number is handed out as
 // one word, with a mark where it is the first of its line and one where it has a minus sign (docs/FORMAT.md, 'Numbers as text').
+#![tactic(auto)]
 ghost use Rattle.std.specs.Prelude.{◌≡◌, ◌++◌, [], ◌∷◌, ◌+◌, ◌*◌, ◌≤◌, ◌<◌, length, get_or, take};
 ghost use Rattle.std.proofs.lemmas.List.Edits.{sets};
 ghost use Rattle.numbers.specs.Scan.{char_of, step, in_gap, behind_sign, longer, in_number, coded, turn_of, turn_into, scanned, words};
@@ -11,7 +12,7 @@ pub const MINUS: u64 = 4294967296;
 pub const FIRST: u64 = 8589934592;
 
 // What a byte of the text is.
-#[derive(Drop)]
+#[derive(Clone, Copy)]
 pub enum Char {
     Digit(u8),
     Minus,
@@ -21,7 +22,7 @@ pub enum Char {
 }
 
 // Between numbers, behind a minus sign, or in a number: whether it is the line's first, whether it has the sign, its value so far.
-#[derive(Drop)]
+#[derive(Clone, Copy)]
 pub enum State {
     Gap(bool),
     Sign(bool),
@@ -29,7 +30,7 @@ pub enum State {
 }
 
 // What a byte leads to: a state, a number that ends there and a state, or no number.
-#[derive(Drop)]
+#[derive(Clone, Copy)]
 pub enum Step {
     Go(State),
     Number(bool, bool, u32, State),
@@ -38,7 +39,7 @@ pub enum Step {
 }
 
 // The same with the words counted: there may be no place for one more.
-#[derive(Drop)]
+#[derive(Clone, Copy)]
 pub enum Turn {
     Next(State, usize),
     Strange,
@@ -47,7 +48,7 @@ pub enum Turn {
 }
 
 // What a text says: so many numbers; or why not, with the place of the byte.
-#[derive(Drop)]
+#[derive(Clone, Copy)]
 pub enum Scanned {
     Numbers(usize),
     Strange(usize),
@@ -56,7 +57,7 @@ pub enum Scanned {
 }
 
 // What words say as bytes: so many; or the first that is none, counted from 1.
-#[derive(Drop)]
+#[derive(Clone, Copy)]
 pub enum Bytes {
     Count(usize),
     Large(usize),

@@ -1,5 +1,6 @@
 // Whether the instances of a paused stream are those of an allowed state (02, 'Pausing a run'; number 19). The stream was found to have its records, and the
 // structs of all instances are in memory.
+#![tactic(auto)]
 pub mod nulls;
 pub mod parts;
 pub mod stand;

@@ -8,7 +8,7 @@ use little_endian::index;
 use shapes::judge::Stacked;
 
 // An instance: the code of the step call that was started last, how many instances there are, its label, and the place of its record.
-#[derive(Drop)]
+#[derive(Clone, Copy)]
 pub struct Instance {
     pub code: usize,
     pub count: usize,

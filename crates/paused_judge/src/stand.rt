@@ -15,7 +15,7 @@ use shapes::judge::{Place, Stacked, stack_right};
 use shapes::locals::locals_right;
 
 // What is judged: the code of the step call that was started last, how many instances there are, and the place of the first record.
-#[derive(Drop)]
+#[derive(Clone, Copy)]
 pub struct Judged {
     pub code: usize,
     pub count: usize,

@@ -1,5 +1,6 @@
 // A paused image opened beside an accepted program (02, 'Pausing a run'): 18 by its blocks and its stream, 19 by its head. What is left of 19 is asked of its
 // instances (`paused_judge`), whose structs are in memory then.
+#![tactic(auto)]
 ghost use Rattle.std.specs.Prelude.{◌≡◌, ◌*◌, ◌≤◌, length};
 ghost use Rattle.types.specs.Limits.{max_instances};
 ghost use Rattle.block.specs.Block.{payload_size};
@@ -12,7 +13,7 @@ use blocks::Opened;
 use paused_read::{Head, Scan, structs};
 
 // A paused stream in a buffer: its head, its length, and the code of the step call that was started last.
-#[derive(Drop)]
+#[derive(Clone, Copy)]
 pub struct State {
     pub head: Head,
     pub len: usize,
@@ -20,14 +21,14 @@ pub struct State {
 }
 
 // A paused stream by its head and its length; or none.
-#[derive(Drop)]
+#[derive(Clone, Copy)]
 pub enum Stream {
     Found(Head, usize),
     Missing,
 }
 
 // A state whose head is allowed, or the number of a refusal.
-#[derive(Drop)]
+#[derive(Clone, Copy)]
 pub enum PausedRead {
     Taken(State),
     Refused(u8),

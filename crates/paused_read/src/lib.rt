@@ -1,5 +1,6 @@
 // The reader of paused images (02, 'Pausing a run'; docs/PAUSED.md). First a pass over the stream says whether it is that of a paused state (18), and what
 // its head holds; the state is judged (19) and seated in memory after that.
+#![tactic(auto)]
 
 mod heads;
 pub mod places;
@@ -21,7 +22,7 @@ use places::Next;
 
 // The head of a paused stream: the place of the schedule left, how many stability entries there are and the entries as bits with the innermost lowest, the
 // label after the one that acted last, how many instances there are, and the place of the first of them in the stream.
-#[derive(Drop)]
+#[derive(Clone, Copy)]
 pub struct Head {
     pub place: usize,
     pub fixes: usize,
@@ -32,7 +33,7 @@ pub struct Head {
 }
 
 // A paused stream by its head; or none.
-#[derive(Drop)]
+#[derive(Clone, Copy)]
 pub enum Scan {
     Stream(Head),
     NoStream,

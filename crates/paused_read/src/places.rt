@@ -11,7 +11,7 @@ use little_endian::index;
 pub const MAX_LOCALS: usize = types::VARIABLES - types::FIRST_LOCAL;
 
 // The next place, where there is one.
-#[derive(Drop)]
+#[derive(Clone, Copy)]
 pub enum Next {
     At(usize),
     Nowhere,

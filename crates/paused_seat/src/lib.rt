@@ -1,5 +1,6 @@
 // The machine of an allowed paused stream, written to lent memory (02, 'Pausing a run'; docs/PAUSED.md, 'Carrying on'). The structs of the instances are
 // there already (`paused_read::structs`): first the other numbers of every instance are written, then its cells; then the machine's own numbers are told.
+#![tactic(auto)]
 pub mod heads;
 pub mod rows;
 mod values;

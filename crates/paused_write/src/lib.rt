@@ -1,5 +1,6 @@
 // The machine in lent memory, written as the stream of a paused image, and that stream in blocks (02, 'Pausing a run'; docs/PAUSED.md). Memory holds the
 // machine as `memory` lays it out.
+#![tactic(auto)]
 mod instances;
 mod standing;
 mod words;
@@ -24,7 +25,7 @@ pub const STREAM: usize = 2
 pub const BLOCKS: usize = 68;
 
 // What a machine has left to do: its numbers, and the code of the step call that was started last.
-#[derive(Drop)]
+#[derive(Clone, Copy)]
 pub struct Left {
     pub numbers: Numbers,
     pub code: usize,

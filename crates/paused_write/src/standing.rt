@@ -11,7 +11,7 @@ pub const NO_POSITION: u8 = 255;
 
 // What tells the bytes of an instance apart from its cells: its struct, how many parameters that has, the position byte, the height of the stack, and
 // marks of the living locals.
-#[derive(Drop)]
+#[derive(Clone, Copy)]
 pub struct Standing {
     pub structure: usize,
     pub params: usize,

@@ -7,20 +7,20 @@ ghost use Rattle.read_exprs.specs.Told.{byte_told, byte_refusal, path_refusal, e
 use judge::{Facts, Judged};
 use types::number;
 
-#[derive(Drop)]
+#[derive(Clone, Copy)]
 pub enum ByteRead {
     Byte(u8, usize),
     NoByte(u8),
 }
 
 // The next place, how many variables, and where they lead.
-#[derive(Drop)]
+#[derive(Clone, Copy)]
 pub enum PathRead {
     Path(usize, u8, Judged),
     NoPath(u8),
 }
 
-#[derive(Drop)]
+#[derive(Clone, Copy)]
 pub enum ExprRead {
     Value(usize, Facts),
     Refused(u8),

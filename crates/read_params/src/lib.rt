@@ -1,4 +1,5 @@
 // The parameter lists of the structs, read into two tables (01, 'Program stream').
+#![tactic(auto)]
 ghost use Rattle.std.specs.Prelude.{◌≡◌, [], ◌∷◌, ◌+◌, ◌*◌, ◌≤◌, length};
 ghost use Rattle.std.proofs.lemmas.List.Edits.{sets};
 ghost use Rattle.judge.specs.ProgramFacts.{row};
@@ -10,14 +11,14 @@ use read_exprs::read;
 use read_exprs::read::ByteRead;
 
 // The next place.
-#[derive(Drop)]
+#[derive(Clone, Copy)]
 pub enum PlaceRead {
     Place(usize),
     NoPlace(u8),
 }
 
 // The next place, and how many structs.
-#[derive(Drop)]
+#[derive(Clone, Copy)]
 pub enum ParamsRead {
     Value(usize, u8),
     Refused(u8),

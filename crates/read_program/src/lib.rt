@@ -1,4 +1,5 @@
 // A whole program stream: its parameters, the steps of its structs, its schedule (01, 'Program stream', and numbers 4 to 8).
+#![tactic(auto)]
 pub mod totals;
 
 ghost use Rattle.std.specs.Prelude.{◌≡◌, List, [], ℕ, ◌*◌, ◌<◌, ◌≤◌, length};
@@ -17,7 +18,7 @@ use read_schedule::{PlanRead, Planned};
 use types::number;
 
 // What comes of a program: its number, where its schedule begins, how many structs, steps and commands it has, and its depth.
-#[derive(Drop)]
+#[derive(Clone, Copy)]
 pub struct Summary {
     pub number: u8,
     pub plan: usize,
@@ -28,7 +29,7 @@ pub struct Summary {
 }
 
 // The place behind the parameters, and what comes of the program.
-#[derive(Drop)]
+#[derive(Clone, Copy)]
 pub enum ProgramRead {
     Value(usize, Summary),
     Refused(u8),

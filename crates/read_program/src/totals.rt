@@ -17,7 +17,7 @@ use read_exprs::read::ByteRead;
 use read_stmts::{StmtRead, stmt};
 
 // Of the steps so far: how many, their commands, the greatest depth, 1 once a limit of a step is passed, and a fault.
-#[derive(Drop)]
+#[derive(Clone, Copy)]
 pub struct Totals {
     pub steps: usize,
     pub commands: usize,
@@ -37,7 +37,7 @@ pub fn stmt_refusal(r: StmtRead) -> u8
 }
 
 // The next place, and what is totalled up.
-#[derive(Drop)]
+#[derive(Clone, Copy)]
 pub enum TotalsRead {
     Value(usize, Totals),
     Refused(u8),

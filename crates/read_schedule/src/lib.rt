@@ -1,4 +1,5 @@
 // The schedule, read and planned in one walk (01, 'Program stream', and number 7): how many items, and whether each step is there.
+#![tactic(auto)]
 ghost use Rattle.std.specs.Prelude.{◌≡◌, List, ℕ, ◌+◌, ◌<◌, ◌^◌, length};
 ghost use Rattle.program.specs.Tree.{Item.call};
 ghost use Rattle.program.specs.Reader.{made, ranged, read_items, read_item};
@@ -15,14 +16,14 @@ use read_exprs::read::ByteRead;
 use types::number;
 
 // How many items, those inside a Fix among them, and a fault, 0 or 7.
-#[derive(Drop)]
+#[derive(Clone, Copy)]
 pub struct Planned {
     pub count: usize,
     pub fault: u8,
 }
 
 // The next place, and what is planned.
-#[derive(Drop)]
+#[derive(Clone, Copy)]
 pub enum PlanRead {
     Value(usize, Planned),
     Refused(u8),

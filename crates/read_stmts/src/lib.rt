@@ -1,4 +1,5 @@
 // Statements of a program stream, read and judged in one walk (01, numbers 4 to 8).
+#![tactic(auto)]
 pub mod made;
 pub mod simple;
 pub mod stmt;
@@ -6,7 +7,7 @@ pub mod stmt;
 use judge::Done;
 
 // What reading answers: the next place and what is computed of what was read, or the number of a refusal.
-#[derive(Drop)]
+#[derive(Clone, Copy)]
 pub enum StmtRead {
     Value(usize, Done),
     Refused(u8),

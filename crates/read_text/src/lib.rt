@@ -1,5 +1,6 @@
 // Program text read into an image (02 §1): 15, 16, 17 and 13 in that order, or the image of the program that the text means. Each pass goes over the places
 // of the text in memory of its own, so that no function follows the nesting of the text.
+#![tactic(auto)]
 ghost use Rattle.std.specs.Prelude.{◌≡◌, ◌<◌, ◌≤◌, length};
 ghost use Rattle.std.proofs.Math.Option.{some};
 ghost use Rattle.tokens.specs.Scanning.{lex};
@@ -28,7 +29,7 @@ pub const MAX_TEXT: usize = 65536;
 const OUTPUT: usize = types::PROGRAM_BLOCKS * blocks::BLOCK_SIZE;
 
 // What reading answers: the number of the refusal, else 0; the blocks that are written.
-#[derive(Drop)]
+#[derive(Clone, Copy)]
 pub struct Answer {
     pub number: u32,
     pub blocks: u32,

@@ -1,1 +1,2 @@
 // The definitions and laws of runs stand in specs/.
+#![tactic(auto)]

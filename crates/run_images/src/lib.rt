@@ -1,5 +1,6 @@
 // A run on images (01, 'Numbers from the input' and 'Numbers from the state'): a program image, a table image and turn bytes to a
 // number, the commands taken, the blocks written and the depth; the commands to the lent list, the last table to the output.
+#![tactic(auto)]
 ghost use Rattle.std.specs.Prelude.{◌≡◌, ◌*◌, ◌≤◌, length};
 ghost use Rattle.types.specs.Limits.{table_blocks, max_turns, max_instances};
 ghost use Rattle.block.specs.Block.{block_size, payload_size};
@@ -22,7 +23,7 @@ const OUTPUT: usize = types::TABLE_BLOCKS * blocks::BLOCK_SIZE;
 
 // What a run answers: the number, the commands taken, the blocks written, the program's depth, and how many instances hold commands where it
 // ends, before the turn that would come next (02, 'Holders kept as a number').
-#[derive(Drop)]
+#[derive(Clone, Copy)]
 pub struct Report {
     pub number: u8,
     pub turns: u32,

@@ -1,5 +1,6 @@
 // What an entry on images does before it acts (01, 'Numbers from the input'): a program image is admitted into short room (1 to 8), and a machine
 // is seated in lent memory beside it, here the one that a table image begins with (9 to 12).
+#![tactic(auto)]
 ghost use Rattle.std.specs.Prelude.{◌≡◌, ◌*◌, ◌≤◌, length};
 ghost use Rattle.types.specs.Limits.{max_structs, max_params, table_blocks, max_instances};
 ghost use Rattle.block.specs.Block.{payload_size};
@@ -21,7 +22,7 @@ pub const SHORT: usize = 2
     + 3 * types::SCHEDULE_ITEMS;
 
 // An accepted program: what it was loaded as, and its parameters; for each struct how many there are, and eight places with the bytes of their types.
-#[derive(Drop)]
+#[derive(Clone, Copy)]
 pub struct Opened {
     pub loaded: Loaded,
     pub counts: [u8; types::MAX_STRUCTS],
@@ -29,14 +30,14 @@ pub struct Opened {
 }
 
 // Of a machine in lent memory: where the steps of its program begin, and its numbers.
-#[derive(Drop)]
+#[derive(Clone, Copy)]
 pub struct Seat {
     pub at: usize,
     pub numbers: Numbers,
 }
 
 // The seat of a machine, or the number of a refusal.
-#[derive(Drop)]
+#[derive(Clone, Copy)]
 pub enum SeatRead {
     Taken(Seat),
     Refused(u8),

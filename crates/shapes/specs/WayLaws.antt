@@ -51,7 +51,7 @@ module _ (G : Ctx) (counts types : List ℕ) (own : ℕ) (T : Tables G counts ty
     way = start;
     stack = refl;
     wide = length-replicate {A = ℕ} max_locals 0;
-    locals = λ v m. absurd (Memᴰ.not_nil m);
+    locals = λ v m. absurd (Memᴰ.not-nil m);
   }
   comes (suc n) h =
       let b = comes n (omega arith) in

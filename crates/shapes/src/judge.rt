@@ -10,7 +10,7 @@ use commands::kind;
 use little_endian::word_at;
 
 // A place before a command of a step of the struct `own`, whose commands stand at the places `from` to `to` of the list.
-#[derive(Drop)]
+#[derive(Clone, Copy)]
 pub struct Place {
     pub from: usize,
     pub to: usize,
@@ -19,7 +19,7 @@ pub struct Place {
 }
 
 // The stack of an instance: its label, among so many; where its words begin in the stream, the top first, and how many they are.
-#[derive(Drop)]
+#[derive(Clone, Copy)]
 pub struct Stacked {
     pub instances: usize,
     pub label: usize,

@@ -9,7 +9,7 @@ use commands::kind;
 use little_endian::index;
 
 // The structs of the labels found on a stack, the top first.
-#[derive(Drop)]
+#[derive(Clone, Copy)]
 pub struct Found {
     pub count: usize,
     pub structs: [u8; types::MAX_DEPTH],

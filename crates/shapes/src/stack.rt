@@ -4,7 +4,7 @@ ghost use Rattle.types.specs.Limits.{step_commands};
 ghost use Rattle.shapes.specs.Stacks.{types_in, Formed};
 
 // Type bytes, the bottom first.
-#[derive(Drop)]
+#[derive(Clone, Copy)]
 pub struct Stack {
     pub height: usize,
     pub bytes: [u8; types::STEP_COMMANDS],

@@ -8,7 +8,7 @@ use crate::after::{LOCALS, after, wrote};
 use crate::stack::{Stack, empty};
 
 // Type bytes: those on the stack, and one for each local that was written.
-#[derive(Drop)]
+#[derive(Clone, Copy)]
 pub struct Walk {
     pub stack: Stack,
     pub locals: [u8; LOCALS],

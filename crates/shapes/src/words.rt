@@ -13,7 +13,7 @@ use little_endian::{index, word_at};
 pub const WORD: usize = 4;
 
 // The labels among the words of a stack: whether each of them is one, and their structs.
-#[derive(Drop)]
+#[derive(Clone, Copy)]
 pub struct Labels {
     pub right: bool,
     pub found: Found,

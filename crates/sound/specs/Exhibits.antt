@@ -126,7 +126,7 @@ stuck_7 = record {
   command = n_get int 0;
   rest = n_this ∷ n_wr 0 0 ∷ [];
   holds = refl;
-  lacks = λ n. Memᴰ.not_nil n.3.0;
+  lacks = λ n. Memᴰ.not-nil n.3.0;
 }
 
 pub jams_7 : Jams (program outlived) [] (0 ∷ 0 ∷ 0 ∷ 0 ∷ [])

@@ -60,11 +60,11 @@ module _ (p : Program) (m : Machine) where
     NextReady [] = Unit {0}
     NextReady (n ∷ c) = Needs n
 
-    abbrev pub Typed-params : Env → Type 0
-    Typed-params (env ps ls) = Each (ValueAmong m.instances) (params_of p i.struct) ps
+    abbrev pub TypedParams : Env → Type 0
+    TypedParams (env ps ls) = Each (ValueAmong m.instances) (params_of p i.struct) ps
 
 -- the next command of every instance finds what it needs; every parameter holds a value of its type; no stack is higher than d
 pub record Right (p : Program) (d : ℕ) (m : Machine) : Type 0 where
   pub ready : (l : ℕ) (i : Instance) → get_elem? m.instances l ≡ some i → NextReady p m l i i.code
-  pub typed : (l : ℕ) (i : Instance) → get_elem? m.instances l ≡ some i → Typed-params p m l i i.env
+  pub typed : (l : ℕ) (i : Instance) → get_elem? m.instances l ≡ some i → TypedParams p m l i i.env
   pub low : (l : ℕ) (i : Instance) → get_elem? m.instances l ≡ some i → length i.stack ≤ d

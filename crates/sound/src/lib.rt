@@ -1,1 +1,2 @@
 // The definitions and laws of demand 3 stand in specs/.
+#![tactic(auto)]

@@ -7,14 +7,14 @@ use Rattle.program.specs.Counts.{All}
 use Rattle.commands.specs.Names.{Once, names_of_steps}
 
 unfoldable mutual
-  pub TypedThere-item : Item → List (List Step) → Type 0
-  TypedThere-item (call n) tss = Unit {0}
-  TypedThere-item (call_in k n) tss = Memᴰ n (names_of_steps (get_or tss k []))
-  TypedThere-item (fix is) tss = TypedThere is tss
+  pub TypedThereItem : Item → List (List Step) → Type 0
+  TypedThereItem (call n) tss = Unit {0}
+  TypedThereItem (call_in k n) tss = Memᴰ n (names_of_steps (get_or tss k []))
+  TypedThereItem (fix is) tss = TypedThere is tss
 
   pub TypedThere : Items → List (List Step) → Type 0
   TypedThere stop tss = Unit {0}
-  TypedThere (item i is) tss = (TypedThere-item i tss) × (TypedThere is tss)
+  TypedThere (item i is) tss = (TypedThereItem i tss) × (TypedThere is tss)
 
 -- each struct has each step name once, and each typed call its step
 pub record StepsRight (p : Program) : Type 0 where

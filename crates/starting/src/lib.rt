@@ -1,5 +1,6 @@
 // A step started alone on the memory of a table that is seated (02 §11 and §14), for every struct that has it: the commands of its program into a list, whether
 // one of the structs has the step, and the machine of the started step in memory.
+#![tactic(auto)]
 ghost use Rattle.std.specs.Prelude.{◌≡◌, ◌≤◌, ◌<◌, length};
 ghost use Rattle.types.specs.Limits.{max_structs, step_names};
 ghost use Rattle.scheduler.specs.Ready.{spans_size};
@@ -14,7 +15,7 @@ use scheduler::count::holding;
 use seating::Seat;
 
 // A machine that is seated beside a program, whose schedule begins at a place and which has so many steps.
-#[derive(Drop)]
+#[derive(Clone, Copy)]
 pub struct Site {
     pub seat: Seat,
     pub plan: usize,
@@ -22,7 +23,7 @@ pub struct Site {
 }
 
 // Whether the step is there; if so, the numbers of the machine that it was started on.
-#[derive(Drop)]
+#[derive(Clone, Copy)]
 pub struct Started {
     pub there: bool,
     pub numbers: Numbers,

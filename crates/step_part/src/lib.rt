@@ -1,4 +1,5 @@
 // The commands of one step, as that part of the lent list (01, 'Names, types, commands').
+#![tactic(auto)]
 ghost use Rattle.std.specs.Prelude.{◌≡◌};
 ghost use Rattle.verdict.specs.Verdict.{checked};
 ghost use Rattle.step_part.specs.StepPart.{nowhere, spot_at, spot_by, step_place, step_part};
@@ -7,7 +8,7 @@ use directory::rows::{ROWS, Sought, find, place};
 use load::Load;
 
 // 01's number of a refused image or of a short list, else 0; the place of the step's first command, and how many it has.
-#[derive(Drop)]
+#[derive(Clone, Copy)]
 pub struct Spot {
     pub number: u8,
     pub start: usize,

@@ -1,6 +1,7 @@
 // Tables of instances, from an image into lent memory (01, 'Table and turns'). Memory holds them as `memory` lays a machine
 // out: six numbers for each instance in `heads`, thirty-two cells for each in `cells`. Of a program's parameters `counts` has for each
 // struct how many there are, and `types` eight places with the bytes of their types.
+#![tactic(auto)]
 mod nulls;
 mod reading;
 mod refer;
@@ -18,7 +19,7 @@ use blocks::Opened;
 use reading::{CountRead, PlaceRead};
 
 // How many instances a table has, the null ones among them, with all of them in memory; or the number of a refusal, and memory anyhow.
-#[derive(Drop)]
+#[derive(Clone, Copy)]
 pub enum TableRead {
     Instances(usize),
     Refused(u8),

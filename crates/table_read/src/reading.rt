@@ -8,14 +8,14 @@ ghost use Rattle.table_read.specs.Params.{Tables};
 ghost use Rattle.table_read.specs.Told.{count_told, place_refusal, count_refusal, Counted, Within, ValueLaid, ValuesLaid, RecordLaid, RecordsLaid};
 
 // The next place.
-#[derive(Drop)]
+#[derive(Clone, Copy)]
 pub enum PlaceRead {
     Place(usize),
     NoPlace(u8),
 }
 
 // N, or the number of a refusal.
-#[derive(Drop)]
+#[derive(Clone, Copy)]
 pub enum CountRead {
     Count(usize),
     NoCount(u8),

@@ -1,11 +1,12 @@
 // Numbers as a table stream (docs/FORMAT.md, 'Tables as text'): each line is a record, with its label, its struct and its values, as words of `numbers`.
+#![tactic(auto)]
 ghost use Rattle.std.specs.Prelude.{◌≡◌, ◌++◌, ◌+◌, ◌*◌, ◌≤◌, ◌<◌, length, get_or, set, take};
 ghost use Rattle.std.proofs.lemmas.List.Edits.{sets};
 ghost use Rattle.program.specs.Encoding.{enc_word};
 ghost use Rattle.table_stream.specs.TableStream.{value_number, word_bytes, begins, item_bytes, one_line, stream_of, agreed_from, judged};
 
 // What numbers give: a stream of so many bytes; or how many of them are right; or too short an output.
-#[derive(Drop)]
+#[derive(Clone, Copy)]
 pub enum Made {
     Stream(usize),
     NoRecord(usize),

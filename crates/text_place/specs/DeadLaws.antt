@@ -38,18 +38,18 @@ unfolding kinds_in
 kinds_on k l n = rw (ne_eqb k 0 n, kinds_in) refl
 
 -- the kinds up to the token, and with it, leave what is dead
-abbrev Dead-behind : Shape → List ℕ → ℕ → Type 0
-Dead-behind s ks n = dead (moves s (kinds_in (take (suc n) ks))) ≡ true
+abbrev DeadBehind : Shape → List ℕ → ℕ → Type 0
+DeadBehind s ks n = dead (moves s (kinds_in (take (suc n) ks))) ≡ true
 
-stuck_dead : (s : Shape) (ks : List ℕ) → stuck_from s ks < length ks → Dead-behind s ks (stuck_from s ks)
+stuck_dead : (s : Shape) (ks : List ℕ) → stuck_from s ks < length ks → DeadBehind s ks (stuck_from s ks)
 unfolding stuck_from moves
 stuck_dead s [] l = absurd (omega arith)
 stuck_dead s (k ∷ ks) l = go (eqb k 0) refl (dead (move s (sample k))) refl (stuck_dead s ks) (stuck_dead (move s (sample k)) ks)
   where
     go : (b : Bool) → eqb k 0 ≡ b → (c : Bool) → dead (move s (sample k)) ≡ c
-        → (stuck_from s ks < length ks → Dead-behind s ks (stuck_from s ks))
-        → (stuck_from (move s (sample k)) ks < length ks → Dead-behind (move s (sample k)) ks (stuck_from (move s (sample k)) ks))
-        → Dead-behind s (k ∷ ks) (stuck_from s (k ∷ ks))
+        → (stuck_from s ks < length ks → DeadBehind s ks (stuck_from s ks))
+        → (stuck_from (move s (sample k)) ks < length ks → DeadBehind (move s (sample k)) ks (stuck_from (move s (sample k)) ks))
+        → DeadBehind s (k ∷ ks) (stuck_from s (k ∷ ks))
     go true e c f g h =
         let z = eqb-true k 0 e in let w = stuck_past s k ks z in
         rw (w, kinds_past k (take (suc (stuck_from s ks)) ks) z) (g (omega (arith, w)))

@@ -32,14 +32,14 @@ use Rattle.text_shape.specs.CodeNames.{first_defs_code}
 -- Where no token begins ------------------------------------------------------------------------------
 
 -- i places were marked
-pub record Marked-to (x : List ℕ) (i : ℕ) : Type 0 where
+pub record MarkedTo (x : List ℕ) (i : ℕ) : Type 0 where
   pub inner : i ≤ length x
   pub whole : i + length (marks (drop i x)) ≡ length (marks x)
 
-pub marked_start : (x : List ℕ) → Marked-to x 0
+pub marked_start : (x : List ℕ) → MarkedTo x 0
 marked_start x = record { inner = omega arith; whole = omega arith }
 
-module _ {x : List ℕ} {i : ℕ} (r : Marked-to x i) where
+module _ {x : List ℕ} {i : ℕ} (r : MarkedTo x i) where
   pub marked_end : length x ≤ i → i ≡ length (marks x)
   unfolding marks_from
   marked_end h = let e = drop_of_length-le x {i = i} h in let w : i + length (marks []) ≡ length (marks x) = rw e at r.whole in omega (arith, w)
@@ -51,7 +51,7 @@ module _ {x : List ℕ} {i : ℕ} (r : Marked-to x i) where
     pub marked_inside : i + (n + 1) ≤ length x
     marked_inside = let h = spot_inside (drop i x) e in omega (arith, length-drop i x)
 
-    pub marked_next : Marked-to x (i + (n + 1))
+    pub marked_next : MarkedTo x (i + (n + 1))
     marked_next =
         let rest = marks (drop (i + (n + 1)) x) in
         let w : i + suc (length (replicate n 0 ++ rest)) ≡ length (marks x) = rw (marks_taken (drop i x) e, drop-drop (n + 1) i x) at r.whole in

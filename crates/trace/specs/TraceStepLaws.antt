@@ -12,7 +12,7 @@ use Rattle.machine.specs.Measure.{bound}
 use Rattle.machine.specs.Laws.MeasureLaws.{move_falls}
 use Rattle.run.specs.Turns.{chosen}
 use Rattle.run.specs.Holders.{holders, due}
-use Rattle.run.specs.Laws.Settles.{Settles.holds, Settles.ends as Settles-end, Settles.moves as settles_move}
+use Rattle.run.specs.Laws.Settles.{Settles.holds, Settles.ends as SettlesEnd, Settles.moves as settles_move}
 use Rattle.run.specs.Laws.FuelLaws.{Enough, fuel_suffices, fuel_settles, settled}
 use Rattle.run.specs.Run.{Settled, Settled.hold, Settled.stop, is_done, settle, fuel}
 use Rattle.trace.specs.Trace.{Line, Line.moved, Line.acted, move_line, moves_by, moves, turn_line, turn_lines, trace}
@@ -95,4 +95,4 @@ module _ (p : Program) where
       pub trace_ends : (es : List ℕ) → trace p m es ≡ []
       unfolding trace turn_lines
       trace_ends [] = moves_ended (fuel m)
-      trace_ends (e ∷ es) = rw (moves_ended (fuel m), settled p (Settles-end d q))
+      trace_ends (e ∷ es) = rw (moves_ended (fuel m), settled p (SettlesEnd d q))

@@ -1,1 +1,2 @@
 // The definitions and laws of a trace stand in specs/.
+#![tactic(auto)]

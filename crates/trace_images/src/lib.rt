@@ -1,6 +1,7 @@
 // The trace of a run on images (docs/FORMAT.md, 'Traces'), a page at a time: a program image, a table image and turn bytes to the number and the turns of
 // the run and the length of its trace's text; of the text the bytes from a place on, as many as the output holds. A call makes the run anew: nothing is
 // kept between pages.
+#![tactic(auto)]
 mod pages;
 mod telling;
 
@@ -19,7 +20,7 @@ use load::Load;
 use seating::{Opened, SeatRead};
 
 // What is answered: the number and the turns of the run, how many bytes its trace's text has, and how many of them were written.
-#[derive(Drop)]
+#[derive(Clone, Copy)]
 pub struct Traced {
     pub number: u8,
     pub turns: u32,

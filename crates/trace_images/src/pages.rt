@@ -12,7 +12,7 @@ use crate::Traced;
 pub(crate) const LINE: usize = 1024;
 
 // Where the page begins in the text, and how many bytes of the text there are so far.
-#[derive(Drop)]
+#[derive(Clone, Copy)]
 pub(crate) struct Page {
     pub from: usize,
     pub length: usize,

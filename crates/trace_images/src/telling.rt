@@ -15,7 +15,7 @@ use seating::{Opened, Seat};
 use trace_lines::Coming;
 
 // An accepted program, a machine that is seated beside it, and where the page begins in the text of its run.
-#[derive(Drop)]
+#[derive(Clone, Copy)]
 pub(crate) struct Start {
     pub opened: Opened,
     pub seat: Seat,
@@ -24,7 +24,7 @@ pub(crate) struct Start {
 
 // A run between two acts: its machine, the step that runs, the turns taken and the byte that comes next; the number that it stops with, and whether
 // a turn is due; the page of its text.
-#[derive(Drop)]
+#[derive(Clone, Copy)]
 pub(crate) struct Telling {
     pub coming: Coming,
     pub number: u8,

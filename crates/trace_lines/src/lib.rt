@@ -1,5 +1,6 @@
 // The lines of a trace on lent memory (docs/FORMAT.md, 'Traces'): a turn and a move of the schedule, each made and told in one call. The bytes
 // that stand in `out` then are those that `trace` defines of the machine before it and the one behind it.
+#![tactic(auto)]
 mod choice;
 pub mod parts;
 pub mod writes;
@@ -25,7 +26,7 @@ use layout::{Numbers, codes};
 use text::lines::column;
 
 // A turn that comes: the machine, the step that runs, the turns taken before it, and its byte.
-#[derive(Drop)]
+#[derive(Clone, Copy)]
 pub struct Coming {
     pub machine: Machine,
     pub step: usize,
@@ -34,7 +35,7 @@ pub struct Coming {
 }
 
 // What stands before the stack: turn, byte, label, struct, step, position and command.
-#[derive(Drop)]
+#[derive(Clone, Copy)]
 pub struct Acting {
     pub taken: usize,
     pub byte: u8,
@@ -46,7 +47,7 @@ pub struct Acting {
 }
 
 // The machine behind an act, the step that runs then, and how long the line is: 0 where the command was refused.
-#[derive(Drop)]
+#[derive(Clone, Copy)]
 pub struct Told {
     pub machine: Machine,
     pub step: usize,

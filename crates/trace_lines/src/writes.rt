@@ -9,7 +9,7 @@ use crate::parts::worth;
 const WR: u64 = 4;
 
 // Whether a parameter is written; if so, its label and number, and its cell before.
-#[derive(Drop)]
+#[derive(Clone, Copy)]
 pub struct Write {
     pub some: bool,
     pub label: usize,

@@ -1,4 +1,5 @@
 // What the names of a text's steps and schedule stand for (02 §1), in code: tables of declarations, and the pass over the places of a text by them.
+#![tactic(auto)]
 mod declared;
 pub mod layout;
 pub mod looked;
@@ -16,7 +17,7 @@ ghost use Rattle.uses.specs.Layout.{table_size};
 
 // Where the pass stands: structs begun, locals declared, those alive with the one that is not alive yet, whether there is such a one, the byte of the type
 // passed last, argument lists open, ifs open.
-#[derive(Drop)]
+#[derive(Clone, Copy)]
 pub struct Scope {
     pub begun: usize,
     pub met: usize,
@@ -28,14 +29,14 @@ pub struct Scope {
 }
 
 // What a name stands for: its number and the byte of a type; or nothing.
-#[derive(Drop)]
+#[derive(Clone, Copy)]
 pub enum Seen {
     Of(u8, usize),
     Nothing,
 }
 
 // After one place: 17 holds; the pass goes on; it leaves a number and goes on.
-#[derive(Drop)]
+#[derive(Clone, Copy)]
 pub enum Passed {
     Stop,
     On(Scope),
@@ -43,7 +44,7 @@ pub enum Passed {
 }
 
 // How many numbers a text's names have; or 17, and the place at which the pass stopped.
-#[derive(Drop)]
+#[derive(Clone, Copy)]
 pub enum Numbered {
     Count(usize),
     Nothing(usize),

@@ -19,7 +19,7 @@ every_reflects r (a ∷ l) = reflects_both (r a) (every_reflects r l)
 -- the membership test decides membership
 pub member_reflects : (x : ℕ) (l : List ℕ) → Reflects (Memᴰ x l) (member x l)
 unfolding member
-member_reflects x [] = fails Memᴰ.not_nil
+member_reflects x [] = fails Memᴰ.not-nil
 member_reflects x (y ∷ l) = go (eq_reflects x y) (member_reflects x l)
   where
     go : {a b : Bool} → Reflects (x ≡ y) a → Reflects (Memᴰ x l) b → Reflects (Memᴰ x (y ∷ l)) (a || b)

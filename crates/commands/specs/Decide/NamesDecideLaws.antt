@@ -6,8 +6,8 @@ use Rattle.program.specs.Tree.{Var, Var.par, Var.loc, Expr, Expr.inv, Expr.make,
 use Rattle.program.specs.Tree.{Expr.self, Expr.op, Exprs, Exprs.none, Exprs.more, Stmt, Stmt.when, Stmt.declare, Stmt.update, Stmt.create, Stmts}
 use Rattle.program.specs.Tree.{Stmts.end, Stmts.next, Item, Item.call, Item.call_in, Item.fix, Items, Items.stop, Items.item, Step, Program}
 use Rattle.types.specs.Reflects.{Reflects, Reflects.holds, Reflects.fails, reflects_iff, reflects_map, reflects_negation, reflects_both, lt_reflects}
-use Rattle.commands.specs.Names.{Starts, Names, Names-all, declares, live_after, Named-stmt, Named, names_of_steps, NamedSteps, Had}
-use Rattle.commands.specs.Names.{Scheduled-item, Scheduled, NamesRight}
+use Rattle.commands.specs.Names.{Starts, Names, NamesAll, declares, live_after, NamedStmt, Named, names_of_steps, NamedSteps, Had}
+use Rattle.commands.specs.Names.{ScheduledItem, Scheduled, NamesRight}
 use Rattle.commands.specs.Decide.DecideLaws.{every_reflects, member_reflects, once_reflects}
 use Rattle.commands.specs.Decide.NamesDecide.{start_named, expr_named, args_named, stmt_named, body_named, steps_named, stepped, item_stepped}
 use Rattle.commands.specs.Decide.NamesDecide.{items_stepped, names_right}
@@ -18,7 +18,7 @@ start_reflects n live (par x) = lt_reflects x n
 start_reflects n live (loc x) = member_reflects x live
 
 mutual
-  unfolding Names expr_named Names-all args_named
+  unfolding Names expr_named NamesAll args_named
 
   expr_reflects : (e : Expr) (n : ℕ) (live : List ℕ) → Reflects (Names e n live) (expr_named e n live)
   expr_reflects (inv e) n live = expr_reflects e n live
@@ -31,14 +31,14 @@ mutual
   expr_reflects self n live = holds tt
   expr_reflects (op o a b) n live = reflects_both (expr_reflects a n live) (expr_reflects b n live)
 
-  args_reflects : (es : Exprs) (n : ℕ) (live : List ℕ) → Reflects (Names-all es n live) (args_named es n live)
+  args_reflects : (es : Exprs) (n : ℕ) (live : List ℕ) → Reflects (NamesAll es n live) (args_named es n live)
   args_reflects none n live = holds tt
   args_reflects (more e es) n live = reflects_both (expr_reflects e n live) (args_reflects es n live)
 
 mutual
-  unfolding Named-stmt stmt_named Named body_named
+  unfolding NamedStmt stmt_named Named body_named
 
-  stmt_reflects : (s : Stmt) (n : ℕ) (live seen : List ℕ) → Reflects (Named-stmt s n live seen) (stmt_named s n live seen)
+  stmt_reflects : (s : Stmt) (n : ℕ) (live seen : List ℕ) → Reflects (NamedStmt s n live seen) (stmt_named s n live seen)
   stmt_reflects (when e b) n live seen = reflects_both (expr_reflects e n live) (body_reflects b n live seen)
   stmt_reflects (declare t x e) n live seen = reflects_both (expr_reflects e n live) (reflects_negation (member_reflects x seen))
   stmt_reflects (update v vs e) n live seen = reflects_both (start_reflects n live v) (expr_reflects e n live)
@@ -60,7 +60,7 @@ steps_reflects p k (ts ∷ tss) =
 -- some struct of ts ∷ tss has the step where the first has it or one behind
 had_reflects : (n : ℕ) (tss : List (List Step)) → Reflects (Had n tss) (stepped n tss)
 unfolding stepped names_of_steps
-had_reflects n [] = fails (λ h. Memᴰ.not_nil h.1)
+had_reflects n [] = fails (λ h. Memᴰ.not-nil h.1)
 had_reflects n (ts ∷ tss) = go (member_reflects n (names_of_steps ts)) (had_reflects n tss)
   where
     behind : (Memᴰ n (names_of_steps ts) → ⊥) → (Had n tss → ⊥) → (k : ℕ) → Memᴰ n (names_of_steps (get_or (ts ∷ tss) k [])) → ⊥
@@ -73,9 +73,9 @@ had_reflects n (ts ∷ tss) = go (member_reflects n (names_of_steps ts)) (had_re
     go (fails f) (fails g) = fails (λ h. behind f g h.0 h.1)
 
 mutual
-  unfolding Scheduled-item item_stepped Scheduled items_stepped
+  unfolding ScheduledItem item_stepped Scheduled items_stepped
 
-  item_reflects : (i : Item) (tss : List (List Step)) → Reflects (Scheduled-item i tss) (item_stepped i tss)
+  item_reflects : (i : Item) (tss : List (List Step)) → Reflects (ScheduledItem i tss) (item_stepped i tss)
   item_reflects (call n) tss = had_reflects n tss
   item_reflects (call_in k n) tss = member_reflects n (names_of_steps (get_or tss k []))
   item_reflects (fix is) tss = items_reflects is tss

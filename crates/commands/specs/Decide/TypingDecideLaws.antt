@@ -14,9 +14,9 @@ use Rattle.commands.specs.Context.{Ctx, typ, context}
 use Rattle.commands.specs.Typing.{Sort, Sort.equality, Sort.order, Sort.arithmetic, Sort.logic, sort, Takes, Takes.any_equal, Takes.order_int}
 use Rattle.commands.specs.Typing.{Takes.order_nat, Takes.arith_int, Takes.arith_nat, Takes.logic_bool, Leads, Leads.arrived, Leads.onward}
 use Rattle.commands.specs.Typing.{Reaches, Reaches.from_own, Reaches.from_local, Types, Types.t_not, Types.t_make, Types.t_path, Types.t_int}
-use Rattle.commands.specs.Typing.{Types.t_nat, Types.t_bool, Types.t_null, Types.t_this, Types.t_op, Types-all, Types-all.t_none}
-use Rattle.commands.specs.Typing.{Types-all.t_more, Typed-stmt, Typed-stmt.t_when, Typed-stmt.t_declare, Typed-stmt.t_update}
-use Rattle.commands.specs.Typing.{Typed-stmt.t_create, Typed, Typed.t_end, Typed.t_next, TypedSteps, TypesRight}
+use Rattle.commands.specs.Typing.{Types.t_nat, Types.t_bool, Types.t_null, Types.t_this, Types.t_op, TypesAll, TypesAll.t_none}
+use Rattle.commands.specs.Typing.{TypesAll.t_more, TypedStmt, TypedStmt.t_when, TypedStmt.t_declare, TypedStmt.t_update}
+use Rattle.commands.specs.Typing.{TypedStmt.t_create, Typed, Typed.t_end, Typed.t_next, TypedSteps, TypesRight}
 use Rattle.commands.specs.Decide.DecideLaws.{every_reflects}
 use Rattle.commands.specs.Decide.TypingDecide.{Judgement, Judgement.untypable, Judgement.of_type, is_of, agree, given, result, operate, lead}
 use Rattle.commands.specs.Decide.TypingDecide.{path_type, expr_type, args_typed, stmt_typed, body_typed, steps_typed, types_right}
@@ -147,7 +147,7 @@ module _ (G : Ctx) where
   t_not_back : {e : Expr} (u : Ty) → Types G (inv e) u → (Types G e bool) × (bool ≡ u)
   t_not_back u (t_not h) = (h, refl)
 
-  t_make_back : {k : ℕ} {es : Exprs} (u : Ty) → Types G (make k es) u → (Types-all G es (G.params k)) × (ref k ≡ u)
+  t_make_back : {k : ℕ} {es : Exprs} (u : Ty) → Types G (make k es) u → (TypesAll G es (G.params k)) × (ref k ≡ u)
   t_make_back u (t_make h) = (h, refl)
 
   t_path_back : {v : Var} {vs : List ℕ} (u : Ty) → Types G (path v vs) u → Reaches G v vs u
@@ -171,7 +171,7 @@ module _ (G : Ctx) where
   t_op_back : {o : Op} {a b : Expr} (u : Ty) → Types G (op o a b) u → Operated (sort o) (Types G a) (Types G b) u
   t_op_back u (t_op {t = t} k h l) = (t, k, h, l)
 
-  t_more_back : {e : Expr} {es : Exprs} {t : Ty} {ts : List Ty} → Types-all G (more e es) (t ∷ ts) → (Types G e t) × (Types-all G es ts)
+  t_more_back : {e : Expr} {es : Exprs} {t : Ty} {ts : List Ty} → TypesAll G (more e es) (t ∷ ts) → (Types G e t) × (TypesAll G es ts)
   t_more_back (t_more h l) = (h, l)
 
   mutual
@@ -191,7 +191,7 @@ module _ (G : Ctx) where
         judges_map (λ u h. t_op h.1 h.2 h.3) t_op_back (operate_judges (sort o) (expr_judges a) (expr_judges b))
 
     -- and the test of arguments decides whether each is of its parameter's type
-    pub args_reflects : (es : Exprs) (ts : List Ty) → Reflects (Types-all G es ts) (args_typed G es ts)
+    pub args_reflects : (es : Exprs) (ts : List Ty) → Reflects (TypesAll G es ts) (args_typed G es ts)
     args_reflects none [] = holds t_none
     args_reflects none (t ∷ ts) = fails (λ h. elim h [ ])
     args_reflects (more e es) [] = fails (λ h. elim h [ ])
@@ -200,25 +200,25 @@ module _ (G : Ctx) where
 
   -- Statements --------------------------------------------------------------------
 
-  t_when_back : {e : Expr} {b : Stmts} → Typed-stmt G (when e b) → (Types G e bool) × (Typed G b)
+  t_when_back : {e : Expr} {b : Stmts} → TypedStmt G (when e b) → (Types G e bool) × (Typed G b)
   t_when_back (t_when h l) = (h, l)
 
-  t_declare_back : {t : Ty} {x : ℕ} {e : Expr} → Typed-stmt G (declare t x e) → Types G e t
+  t_declare_back : {t : Ty} {x : ℕ} {e : Expr} → TypedStmt G (declare t x e) → Types G e t
   t_declare_back (t_declare h) = h
 
-  t_update_back : {v : Var} {vs : List ℕ} {e : Expr} → Typed-stmt G (update v vs e) → (t : Ty) × Reaches G v vs t × Types G e t
+  t_update_back : {v : Var} {vs : List ℕ} {e : Expr} → TypedStmt G (update v vs e) → (t : Ty) × Reaches G v vs t × Types G e t
   t_update_back (t_update {t = t} r h) = (t, r, h)
 
-  t_create_back : {k : ℕ} {es : Exprs} → Typed-stmt G (create k es) → Types-all G es (G.params k)
+  t_create_back : {k : ℕ} {es : Exprs} → TypedStmt G (create k es) → TypesAll G es (G.params k)
   t_create_back (t_create h) = h
 
-  t_next_back : {s : Stmt} {b : Stmts} → Typed G (next s b) → (Typed-stmt G s) × (Typed G b)
+  t_next_back : {s : Stmt} {b : Stmts} → Typed G (next s b) → (TypedStmt G s) × (Typed G b)
   t_next_back (t_next h l) = (h, l)
 
   mutual
     unfolding stmt_typed body_typed
 
-    stmt_reflects : (s : Stmt) → Reflects (Typed-stmt G s) (stmt_typed G s)
+    stmt_reflects : (s : Stmt) → Reflects (TypedStmt G s) (stmt_typed G s)
     stmt_reflects (when e b) =
         reflects_map (λ h. t_when h.0 h.1) t_when_back (reflects_both (is_of_reflects (expr_judges e) bool) (body_reflects b))
     stmt_reflects (declare t x e) = reflects_map (λ h. t_declare h) t_declare_back (is_of_reflects (expr_judges e) t)

@@ -3,11 +3,12 @@ use Rattle.std.specs.Prelude.{ℕ, suc, ◌≡◌, refl, true, length, drop}
 use Rattle.std.proofs.Common.{ap}
 use mathlib.Core.List.{List, [], ◌∷◌, ◌++◌}
 use Rattle.std.proofs.Math.Seq.{drop-append_seam}
+use Rattle.types.specs.TypeBytes.{struct_of}
 use Rattle.types.specs.Types.{Ty}
 use Rattle.program.specs.Tree.{Var, Var.par, Var.loc, Expr, Expr.inv, Expr.make, Expr.path, Expr.int_lit, Expr.nat_lit, Expr.bool_lit, Expr.null}
 use Rattle.program.specs.Tree.{Expr.self, Expr.op, Exprs, Exprs.none as no_exprs, Exprs.more as more_exprs, Stmt, Stmt.when, Stmt.declare}
 use Rattle.program.specs.Tree.{Stmt.update, Stmt.create, Stmts, Stmts.end, Stmts.next}
-use Rattle.commands.specs.Context.{Ctx}
+use Rattle.commands.specs.Context.{Ctx, typ}
 use Rattle.commands.specs.Names.{live_after}
 use Rattle.commands.specs.Noted.{Note, Note.n_this, Note.n_not, Note.n_set, Note.n_cons, Note.n_op, Note.n_if, walk, store, read_path}
 use Rattle.commands.specs.Noted.{write_path, note_expr, note_exprs, note_stmt, note_body}
@@ -66,13 +67,13 @@ module _ (G : Ctx) (l : List ℕ) where
   walk_long : (t : Ty) (xs : List ℕ) {c : List Note} {ls : List (List ℕ)} → Beside c ls → Beside (walk G t xs c) (live_walk l xs ls)
   unfolding walk live_walk
   walk_long t [] q = q
-  walk_long t (x ∷ xs) q = more (walk_long _ xs q)
+  walk_long t (x ∷ xs) q = more (walk_long (typ G (struct_of t) x) xs q)
 
   store_long : (t : Ty) (x : ℕ) (xs : List ℕ) {c : List Note} {ls : List (List ℕ)} → Beside c ls
       → Beside (store G t x xs c) (l ∷ live_walk l xs ls)
   unfolding store live_walk
   store_long t x [] q = more q
-  store_long t x (y ∷ ys) q = more (store_long _ y ys q)
+  store_long t x (y ∷ ys) q = more (store_long (typ G (struct_of t) x) y ys q)
 
   path_long : (v : Var) (vs : List ℕ) {c : List Note} {ls : List (List ℕ)} → Beside c ls
       → Beside (write_path G v vs c) (l ∷ l ∷ live_walk l vs ls)

@@ -16,7 +16,7 @@ module _ {G : Ctx} {n : Note} {c : List Note} {x : Tags} where
   safe_over (act n a k k') = k'
 
 -- a safe start is safe wherever it leads
-pub way_safe : {G : Ctx} {c₀ c : List Note} {x₀ x : Tags} → Safe G c₀ x₀ → Way G c₀ x₀ c x → Safe G c x
+pub way_safe : {G : Ctx} {c₀ : List Note} {x₀ : Tags} {c : List Note} {x : Tags} → Safe G c₀ x₀ → Way G c₀ x₀ c x → Safe G c x
 way_safe k start = k
 way_safe k (on w) = safe_on (way_safe k w)
 way_safe k (over w) = safe_over (way_safe k w)

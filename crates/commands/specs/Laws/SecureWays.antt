@@ -32,7 +32,7 @@ module _ (c₀ : List Note) (ls₀ : List (List ℕ)) (n : Note) (c : List Note)
       let e : length c₀ - length c + jump n ≡ length c₀ - length (drop (jump n) c) = omega arith in
       ap (drop (jump n)) beside_on ∙ drop-drop (jump n) (length c₀ - length c) ls₀ ∙ ap (λ (k : ℕ). drop k ls₀) e
 
-pub way_short : {G : Ctx} {c₀ c : List Note} {x₀ x : Tags} → Way G c₀ x₀ c x → length c ≤ length c₀
+pub way_short : {G : Ctx} {c₀ : List Note} {x₀ : Tags} {c : List Note} {x : Tags} → Way G c₀ x₀ c x → length c ≤ length c₀
 way_short start = omega arith
 way_short (on w) = omega (arith, way_short w)
 way_short (over {n = n} {c = c} w) = omega (arith, way_short w, length-drop (jump n) c)

@@ -9,11 +9,11 @@ use Rattle.types.specs.Types.{Ty, Ty.int, Ty.nat, Ty.bool, Ty.ref}
 use Rattle.types.specs.Values.{value_of, default}
 use Rattle.program.specs.Tree.{Var, Expr, Expr.inv, Expr.make, Expr.path, Expr.int_lit, Expr.nat_lit, Expr.bool_lit, Expr.null, Expr.self, Expr.op}
 use Rattle.program.specs.Tree.{Exprs, Exprs.none, Exprs.more, Stmt, Stmts, Program}
-use Rattle.commands.specs.Context.{Ctx, params_of, context}
-use Rattle.commands.specs.Names.{Starts, Names, Names-all, declares, live_after, Named-stmt, Named}
-use Rattle.commands.specs.Typing.{Leads, Leads.arrived, Leads.onward, Reaches, Reaches.from_own, Reaches.from_local, Types, Types-all}
-use Rattle.commands.specs.Typing.{Types-all.t_none, Types-all.t_more, Typed-stmt, Typed-stmt.t_when, Typed-stmt.t_declare, Typed-stmt.t_update}
-use Rattle.commands.specs.Typing.{Typed-stmt.t_create, Typed, Typed.t_end, Typed.t_next}
+use Rattle.commands.specs.Context.{Ctx, params_of, context, typ}
+use Rattle.commands.specs.Names.{Starts, Names, NamesAll, declares, live_after, NamedStmt, Named}
+use Rattle.commands.specs.Typing.{Leads, Leads.arrived, Leads.onward, Reaches, Reaches.from_own, Reaches.from_local, Types, TypesAll}
+use Rattle.commands.specs.Typing.{TypesAll.t_none, TypesAll.t_more, TypedStmt, TypedStmt.t_when, TypedStmt.t_declare, TypedStmt.t_update}
+use Rattle.commands.specs.Typing.{TypedStmt.t_create, Typed, Typed.t_end, Typed.t_next}
 use Rattle.types.specs.TypeBytes.{struct_of}
 use Rattle.commands.specs.Noted.{Note, Note.n_push, Note.n_this, Note.n_not, Note.n_rd, Note.n_wr, Note.n_get, Note.n_set, Note.n_cons}
 use Rattle.commands.specs.Noted.{Note.n_op, Note.n_if, walk, store, read_path, write_path, note_expr, note_exprs, note_stmt, note_body, noted}
@@ -21,7 +21,7 @@ use Rattle.commands.specs.Noted.{now_written}
 use Rattle.commands.specs.Tags.{tags, stack_after, is_this, Asks, jump}
 use Rattle.commands.specs.Living.{live_walk, live_expr, live_exprs, live_stmt, live_body, lives, alive, Among}
 use Rattle.commands.specs.Laws.LivingLaws.{live_out}
-use Rattle.commands.specs.Locals.{Declaration, Declaration.itself, Declaration.inside, Declaration-in.first, Declaration-in.later, Locals-right}
+use Rattle.commands.specs.Locals.{Declaration, Declaration.itself, Declaration.inside, DeclarationIn.first, DeclarationIn.later, LocalsRight}
 use Rattle.commands.specs.Laws.LocalsLaws.{declared_type}
 use Rattle.commands.specs.Laws.NotedLaws.{left_out, note_body_app}
 use Rattle.commands.specs.Laws.StaticParts.{live_on, stays, result_of, parts}
@@ -60,7 +60,7 @@ module _ (G : Ctx) where
     unfolding store live_walk struct_of now_written
     stores x [] (onward {k = j} i d) k =
         (same l, λ f. one (n_wr j x) refl (i, (χ, ap (λ v. ref j ∷ v ∷ χ) (stays d))) k.0 (k.1 false))
-    stores x (y ∷ ys) (onward {k = j} i d) k = let r = stores y ys d k in (same l, λ f. one (n_rd j x) refl (i, (_, refl)) r.0 (r.1 false))
+    stores x (y ∷ ys) (onward {k = j} i d) k = let r = stores {t = typ G j x} y ys d k in (same l, λ f. one (n_rd j x) refl (i, (_, refl)) r.0 (r.1 false))
 
     gets : (x : ℕ) → Memᴰ x l → From c ls (G.local x ∷ χ) l → From (n_this ∷ n_get (G.local x) x ∷ c) (l ∷ l ∷ ls) χ l
     unfolding now_written
@@ -120,7 +120,7 @@ module _ (G : Ctx) where
           let (t, r, da, db) = parts G d in
           expr a da m.0 (expr b db m.1 (same l, λ f. one (n_op o) refl (t, u, r, (_, refl)) k.0 (rw (result_of r) at (k.1 false))))
 
-      exprs : (es : Exprs) {ts : List Ty} {c : List Note} {ls : List (List ℕ)} {χ : List Ty} → Types-all G es ts → Names-all es n l
+      exprs : (es : Exprs) {ts : List Ty} {c : List Note} {ls : List (List ℕ)} {χ : List Ty} → TypesAll G es ts → NamesAll es n l
           → From c ls (reverse_aux ts χ) l → From (note_exprs es G c) (live_exprs es l ls) χ l
       exprs none t_none m k = k
       exprs (more e es) (t_more d ds) m k = expr e d m.0 (exprs es ds m.1 k)
@@ -128,10 +128,10 @@ module _ (G : Ctx) where
   -- a statement is secure from every stack where what follows is; statements too
   module _ (n : ℕ) where
     mutual
-      unfolding note_stmt live_stmt Named-stmt now_written
+      unfolding note_stmt live_stmt NamedStmt now_written
 
-      stmt : {s : Stmt} {c : List Note} {ls : List (List ℕ)} {l : List ℕ} → ((x : ℕ) (t : Ty) → Declaration s x t → t ≡ G.local x) → Typed-stmt G s
-          → (seen : List ℕ) → Named-stmt s n l seen → Ok c ls (live_after s l) → Ok (note_stmt s G c) (live_stmt s l ls) l
+      stmt : {s : Stmt} {c : List Note} {ls : List (List ℕ)} {l : List ℕ} → ((x : ℕ) (t : Ty) → Declaration s x t → t ≡ G.local x) → TypedStmt G s
+          → (seen : List ℕ) → NamedStmt s n l seen → Ok c ls (live_after s l) → Ok (note_stmt s G c) (live_stmt s l ls) l
       stmt {c = c} {ls = ls} {l = l} right (t_when {e = e} {b = b} d db) seen m k χ =
           let inner = body (λ x t p. right x t (inside p)) db seen m.1 k χ in
           expr n e d m.0 (
@@ -146,7 +146,7 @@ module _ (G : Ctx) where
       stmt right (t_update {v = v} {e = e} r d) seen m k χ = expr n e d m.1 (writes n r m.0 (k χ))
       stmt right (t_create {k = j} {es = es} d) seen m k χ = exprs n es d m (conses j (k (ref j ∷ χ)))
 
-      body : {b : Stmts} {c : List Note} {ls : List (List ℕ)} {l : List ℕ} → Locals-right G b → Typed G b → (seen : List ℕ) → Named b n l seen
+      body : {b : Stmts} {c : List Note} {ls : List (List ℕ)} {l : List ℕ} → LocalsRight G b → Typed G b → (seen : List ℕ) → Named b n l seen
           → Ok c ls l → Ok (note_body b G c) (live_body b l ls) l
       body right t_end seen m k χ = k χ
       body {l = l} right (t_next {s = s} d ds) seen m k χ =

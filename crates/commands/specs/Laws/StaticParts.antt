@@ -8,7 +8,7 @@ use Rattle.commands.specs.Context.{Ctx}
 use Rattle.commands.specs.Names.{live_after}
 use Rattle.commands.specs.Typing.{Sort, sort, Takes, Takes.any_equal, Takes.order_int, Takes.order_nat, Takes.arith_int, Takes.arith_nat}
 use Rattle.commands.specs.Typing.{Takes.logic_bool, Leads, Leads.arrived, Reaches, Types, Types.t_not, Types.t_make, Types.t_path, Types.t_int}
-use Rattle.commands.specs.Typing.{Types.t_nat, Types.t_bool, Types.t_null, Types.t_this, Types.t_op, Types-all}
+use Rattle.commands.specs.Typing.{Types.t_nat, Types.t_bool, Types.t_null, Types.t_this, Types.t_op, TypesAll}
 use Rattle.commands.specs.Tags.{result_type}
 use Rattle.commands.specs.Living.{Among}
 
@@ -38,7 +38,7 @@ module _ (G : Ctx) where
   -- what the type of an expression says of its parts
   abbrev pub Parts : Expr → Ty → Type 0
   Parts (inv e) t = (t ≡ bool) × Types G e bool
-  Parts (make k es) t = (t ≡ ref k) × Types-all G es (G.params k)
+  Parts (make k es) t = (t ≡ ref k) × TypesAll G es (G.params k)
   Parts (path v vs) t = Reaches G v vs t
   Parts (int_lit w) t = t ≡ int
   Parts (nat_lit w) t = t ≡ nat

@@ -56,7 +56,7 @@ module _ (p : Program) (m : Machine) (st : State) (R : Represents m st) where
 -- every label listed is one from l on; none is listed twice
 labels_over : (l : ℕ) (bs : List Bool) (k : ℕ) → Memᴰ k (labels_from l bs) → l ≤ k
 unfolding labels_from
-labels_over l [] k u = absurd (Memᴰ.not_nil u)
+labels_over l [] k u = absurd (Memᴰ.not-nil u)
 labels_over l (true ∷ bs) k u = ⊎_elim (λ e. omega (arith, e)) (λ w. omega (arith, labels_over (suc l) bs k w)) (Memᴰ.cases_cons u)
 labels_over l (false ∷ bs) k u = omega (arith, labels_over (suc l) bs k u)
 

@@ -14,7 +14,7 @@ use Rattle.counts.specs.Numbers.{Distinct, Number, sum}
 module _ {A : Type 0} where
   -- where an element stands
   split : {x : A} (ys : List A) → Memᴰ x ys → (us : List A) × (vs : List A) × (ys ≡ us ++ x ∷ vs)
-  split [] u = absurd (Memᴰ.not_nil u)
+  split [] u = absurd (Memᴰ.not-nil u)
   split {x} (y ∷ ys) u =
       ⊎_elim (λ e. ([], ys, ap {B = List A} (λ z. z ∷ ys) (sym e)))
       (λ w. let (us, vs, e) = split ys w in (y ∷ us, vs, ap {B = List A} (λ z. y ∷ z) e)) (Memᴰ.cases_cons u)
@@ -71,17 +71,17 @@ number_same h a = record {
 
 pub number_none : {P : List ℕ → Type 0} → ((ls : List ℕ) → P ls → ⊥) → Number P 0
 unfolding Distinct
-number_none h = record { all = []; each = λ ls. (λ u. absurd (Memᴰ.not_nil u), λ q. absurd (h ls q)); once = tt; many = refl }
+number_none h = record { all = []; each = λ ls. (λ u. absurd (Memᴰ.not-nil u), λ q. absurd (h ls q)); once = tt; many = refl }
 
 pub number_single : {P : List ℕ → Type 0} (ks : List ℕ) → P ks → ((ls : List ℕ) → P ls → ls ≡ ks) → Number P 1
 unfolding Distinct
 number_single {P} ks x h = record {
   all = ks ∷ [];
   each = λ ls. (
-    λ u. ⊎_elim (λ e. subst P (sym e) x) (λ w. absurd (Memᴰ.not_nil w)) (Memᴰ.cases_cons u),
+    λ u. ⊎_elim (λ e. subst P (sym e) x) (λ w. absurd (Memᴰ.not-nil w)) (Memᴰ.cases_cons u),
     λ q. Memᴰ.head (h ls q),
   );
-  once = (λ u. Memᴰ.not_nil u, tt);
+  once = (λ u. Memᴰ.not-nil u, tt);
   many = refl;
 }
 
@@ -142,5 +142,5 @@ module _ (P : List ℕ → Type 0) (f : ℕ → ℕ) where
   -- sequences parted by their first label are as many as their parts together
   pub number_begins : (hs : List ℕ) → Distinct hs → ((h : ℕ) → Memᴰ h hs → Number (λ ks. P (h ∷ ks)) (f h)) → Number (Begins hs P) (sum f hs)
   unfolding sum Distinct
-  number_begins [] d g = number_none (λ ls x. Memᴰ.not_nil x.among)
+  number_begins [] d g = number_none (λ ls x. Memᴰ.not-nil x.among)
   number_begins (h ∷ hs) d g = both h hs d.0 (g h (Memᴰ.head refl)) (number_begins hs d.1 (λ k u. g k (Memᴰ.tail u)))

@@ -106,7 +106,7 @@ module _ {P : List ℕ → Type 0} (empty : (ls : List ℕ) → P ls → ls ≡ 
 module _ (p : Program) (m : Machine) (st : State) (R : Represents m st) (l v : ℕ) where
   module _ (e : holding m ≡ []) where
     no_holder : (h : ℕ) → Holds h m → ⊥
-    no_holder h x = Memᴰ.not_nil (subst (λ hs. Memᴰ h hs) e (holds_listed m h x))
+    no_holder h x = Memᴰ.not-nil (subst (λ hs. Memᴰ h hs) e (holds_listed m h x))
 
     only_empty : (t : Bool) (ls : List ℕ) → Ends p st l v t ls → ls ≡ []
     only_empty t [] x = refl

@@ -11,7 +11,7 @@ use Rattle.operators.specs.Laws.WordLaws.{op_of_code}
 use Rattle.machine.specs.Published.{StepCall, StepCall.global, StepCall.local, Sched, Sched.done, Sched.start, Sched.fixpoint, Sched.active, Env}
 use Rattle.machine.specs.Published.{Env.env, Inst, Inst.inst, State, State.state}
 use Rattle.machine.specs.Machine.{Instance, Machine}
-use Rattle.machine.specs.Represents.{Represents-inst, Represents-all, Represents}
+use Rattle.machine.specs.Represents.{RepresentsInst, RepresentsAll, Represents}
 use Rattle.machine.specs.Laws.RepresentsLaws.{represents_unique}
 use Rattle.counts.specs.Numbers.{Number}
 use Rattle.every_order.specs.Watch.{Watch}
@@ -119,7 +119,7 @@ sched_reflects (active f s) (active g t) =
 unfoldable view_of : Inst → View
 view_of (inst k c χ ξ) = record { struct = k; code = flatten c; stack = χ; env = ξ }
 
-stands_view : (i : Instance) (j : Inst) → Represents-inst i j ↔ (view i ≡ view_of j)
+stands_view : (i : Instance) (j : Inst) → RepresentsInst i j ↔ (view i ≡ view_of j)
 unfolding view view_of
 stands_view i (inst k c χ ξ) = (
   λ (a, b, d, e).
@@ -130,7 +130,7 @@ stands_view i (inst k c χ ξ) = (
   λ e. (ap (λ v. v.struct) e, ap (λ v. v.code) e, ap (λ v. v.stack) e, ap (λ v. v.env) e),
 )
 
-stand_views : (is : List Instance) (σ : List Inst) → Represents-all is σ ↔ (map view is ≡ map view_of σ)
+stand_views : (is : List Instance) (σ : List Inst) → RepresentsAll is σ ↔ (map view is ≡ map view_of σ)
 stand_views [] [] = (λ a. refl, λ e. tt)
 stand_views [] (j ∷ σ) = (λ a. absurd a, λ e. let z : ◌≡◌ {A = ℕ} 0 1 = cc in omega arith)
 stand_views (i ∷ is) [] = (λ a. absurd a, λ e. let z : ◌≡◌ {A = ℕ} 0 1 = cc in omega arith)

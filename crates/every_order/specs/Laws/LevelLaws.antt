@@ -80,7 +80,7 @@ pub number_some : {P : List ℕ → Type 0} {n : ℕ} → Number P n → (ls : L
 number_some a ls x = go a.all ((a.each ls).1 x) a.many
   where
     go : {k : ℕ} (xs : List (List ℕ)) → Memᴰ ls xs → length xs ≡ k → 0 < k
-    go [] u e = absurd (Memᴰ.not_nil u)
+    go [] u e = absurd (Memᴰ.not-nil u)
     go (y ∷ xs) u e = omega (arith, e)
 
 module _ {A : Type 0} (test : A → Bool) where

@@ -47,7 +47,7 @@ use Rattle.every_order.specs.Laws.SameLaws.{bisimilar_ways}
 -- whoever is listed holds commands
 listed_at : (l : ℕ) (bs : List Bool) (k : ℕ) → Memᴰ k (labels_from l bs) → (j : ℕ) × (k ≡ l + j) × (get_elem? bs j ≡ some true)
 unfolding labels_from
-listed_at l [] k u = absurd (Memᴰ.not_nil u)
+listed_at l [] k u = absurd (Memᴰ.not-nil u)
 listed_at l (true ∷ bs) k u =
     ⊎_elim (λ e. (0, omega (arith, e), refl)) (λ v. let (j, a, b) = listed_at (suc l) bs k v in (suc j, omega (arith, a), b)) (Memᴰ.cases_cons u)
 listed_at l (false ∷ bs) k u = let (j, a, b) = listed_at (suc l) bs k u in (suc j, omega (arith, a), b)

@@ -144,8 +144,8 @@ module _ {M : Type 1} {𝓤 : Ura M} (𝓛 : Logic 𝓤) (mem : Memory → SProp
   abbrev Nearer : Upto → Upto → Type 0
   Nearer j i = n - j.passed < n - i.passed
 
-  Nearer-wf : WellFounded Nearer
-  Nearer-wf = InvImage.wf (λ (i : Upto). n - i.passed) lt-wf_rel.wf
+  NearerWf : WellFounded Nearer
+  NearerWf = InvImage.wf (λ (i : Upto). n - i.passed) lt-wf_rel.wf
 
   abbrev begun : Upto
   begun = record {
@@ -333,7 +333,7 @@ module _ {M : Type 1} {𝓤 : Ura M} (𝓛 : Logic 𝓤) (mem : Memory → SProp
       move ! (23 ∷ []) $ fsplit ! $ move ! (1 ∷ []) $ fsplit ! $ move ! (1 ∷ []) $ fsplit ! $ move ! (1 ∷ []) $ fsplit ! $ move ! (27 ∷ []) $ split ! $
       -- [the token; true; what r owns; true; what from, n and rs own; _10; ..]
       keep ! (9 ∷ 7 ∷ 11 ∷ 13 ∷ 15 ∷ 17 ∷ 19 ∷ 21 ∷ 23 ∷ 25 ∷ 27 ∷ 0 ∷ 6 ∷ 5 ∷ 4 ∷ 2 ∷ 28 ∷ 26 ∷ 24 ∷ 22 ∷ 20 ∷ 18 ∷ 16 ∷ 14 ∷ 12 ∷ 10 ∷ 8 ∷ []) $
-      first ! $ blocks ! $ loops ! 𝓣 Nearer Nearer-wf (At 𝓣 l₀ l₁ l₂ l₃ l₄ l₅ l₆ l₇ l₈ l₉ l₁₀)
+      first ! $ blocks ! $ loops ! 𝓣 Nearer NearerWf (At 𝓣 l₀ l₁ l₂ l₃ l₄ l₅ l₆ l₇ l₈ l₉ l₁₀)
       (turns 𝓣 l₀ l₁ l₂ l₃ l₄ l₅ l₆ l₇ l₈ l₉ l₁₀) begun)))))))))))
 
 module _ {M : Type 1} {𝓤 : Ura M} (𝓛 : Logic 𝓤) (mem : Memory → SProp 𝓤) (run : Routine → Fun 𝓤) (𝓣 : Tables 𝓤 𝓛.H) where

@@ -14,7 +14,7 @@ use Rattle.commands.specs.Decide.{member}
 use Rattle.commands.specs.Decide.NamesDecide.{stmt_named, body_named}
 use Rattle.commands.specs.Decide.TypingDecide.{is_of, expr_type, stmt_typed, body_typed}
 use Rattle.judge.specs.Facts.{worst, named, digit, no_locals, stmt_facts, body_facts}
-use Rattle.judge.specs.Verdicts.{Says, Says.misnamed, Says.right, Tables, tagged, flag, Living, Fits, Locals-stmt, Locals}
+use Rattle.judge.specs.Verdicts.{Says, Says.misnamed, Says.right, Tables, tagged, flag, Living, Fits, LocalsStmt, Locals}
 use Rattle.judge.specs.Laws.FaultLaws.{says_as, says_both, says_named}
 use Rattle.judge.specs.Laws.ExprFactsLaws.{wanted, agree_says, path_shows, expr_shows, args_says}
 use Rattle.judge.specs.Laws.LocalLaws.{step_locals}
@@ -55,8 +55,8 @@ living_as w live L M l a x h = l x h ∙ go (member x live) refl
     go false e = refl
 
 -- they do so behind a statement whose declarations have the second's types
-agrees_after : (s : Stmt) (live : List ℕ) (L M : ℕ → Ty) → Agrees live L M → Locals-stmt M s → Agrees (live_after s live) (types_after s live L) M
-unfolding Locals-stmt member
+agrees_after : (s : Stmt) (live : List ℕ) (L M : ℕ → Ty) → Agrees live L M → LocalsStmt M s → Agrees (live_after s live) (types_after s live L) M
+unfolding LocalsStmt member
 agrees_after (when e b) live L M a h = a
 agrees_after (declare t x e) live L M a h = λ y m. go y (member y live) refl (eqb y x) refl m
   where
@@ -89,10 +89,10 @@ module _ {cs ar types : List ℕ} {G : Ctx} (T : Tables cs ar types G) (few : le
       go false = says_named true
 
   mutual
-    unfolding body_judging CountsStmt CountsStmts IsPath Locals-stmt Locals code
+    unfolding body_judging CountsStmt CountsStmts IsPath LocalsStmt Locals code
 
     stmt_told : (s : Stmt) → CountsStmt cs s → (c : Scope) (live seen : List ℕ) (L M : ℕ → Ty) → Fits c live seen L
-        → Told (Agrees live L M × Locals-stmt M s) (stmt_facts ar types G.own s c).fault (stmt_named s own_params live seen) (stmt_typed (at G M) s)
+        → Told (Agrees live L M × LocalsStmt M s) (stmt_facts ar types G.own s c).fault (stmt_named s own_params live seen) (stmt_typed (at G M) s)
     stmt_told (when e b) n c live seen L M f =
         told_both {A = Agrees live L M × Unit {0}} (λ h. (h.0, tt)) (λ h. h)
         (record {

@@ -9,7 +9,7 @@ use Rattle.commands.specs.Context.{stmt_local, body_local}
 use Rattle.commands.specs.Names.{declares, declared, live_after}
 use Rattle.commands.specs.Decide.{member}
 use Rattle.commands.specs.Decide.NamesDecide.{expr_named, stmt_named, body_named}
-use Rattle.judge.specs.Verdicts.{Locals-stmt, Locals}
+use Rattle.judge.specs.Verdicts.{LocalsStmt, Locals}
 
 -- Truth values ---------------------------------------------------------------------
 
@@ -83,17 +83,17 @@ mutual
       (body_unseen b n (live_after s live) (declares s ++ seen) x (and_right (stmt_named s n live seen) r h) l)
 
 -- a table that has, for each local that a statement declares, the type read off it; the same of statements
-abbrev Reads-stmt : (ℕ → Ty) → Stmt → Type 0
-Reads-stmt L s = (x : ℕ) → member x (declares s) ≡ true → (d : Ty) × (L x ≡ stmt_local s x d)
+abbrev ReadsStmt : (ℕ → Ty) → Stmt → Type 0
+ReadsStmt L s = (x : ℕ) → member x (declares s) ≡ true → (d : Ty) × (L x ≡ stmt_local s x d)
 
 abbrev Reads : (ℕ → Ty) → Stmts → Type 0
 Reads L b = (x : ℕ) → member x (declared b) ≡ true → (d : Ty) × (L x ≡ body_local b x d)
 
 mutual
-  unfolding stmt_named body_named declares declared member stmt_local body_local Locals-stmt Locals
+  unfolding stmt_named body_named declares declared member stmt_local body_local LocalsStmt Locals
 
   -- has the type of each declaration, where names are right
-  stmt_types : (s : Stmt) (n : ℕ) (live seen : List ℕ) (L : ℕ → Ty) → stmt_named s n live seen ≡ true → Reads-stmt L s → Locals-stmt L s
+  stmt_types : (s : Stmt) (n : ℕ) (live seen : List ℕ) (L : ℕ → Ty) → stmt_named s n live seen ≡ true → ReadsStmt L s → LocalsStmt L s
   stmt_types (when e b) n live seen L h r = body_types b n live seen L (and_right (expr_named e n live) (body_named b n live seen) h) r
   stmt_types (declare t x e) n live seen L h r =
       let q = r x (ap (λ m. m || false) (eq-eqb x x refl)) in
@@ -109,7 +109,7 @@ mutual
         body_types b n (live_after s live) (declares s ++ seen) L (and_right (stmt_named s n live seen) q h) (later (and_right (stmt_named s n live seen) q h)),
       )
     where
-      first : Reads-stmt L s
+      first : ReadsStmt L s
       first x m =
           let q = r x (member_append x (declares s) (declared b) ∙ ap (λ a. a || member x (declared b)) m) in
           (body_local b x q.0, q.1)

@@ -31,7 +31,7 @@ use Rattle.machine.specs.Stops.{Full, Full.no_label, Exceeded, Exceeded.no_resul
 use Rattle.machine.specs.Machine.{Tagged, tagged, Source, Source.variable, Source.local, Source.result, given_by, Instance, Machine, Out, Out.next}
 use Rattle.machine.specs.Machine.{Out.refused, Out.stuck, with_code, with_written, acting, put, leaves_stable, read_from, read_at, read, write_to}
 use Rattle.machine.specs.Machine.{write_parameter, write_at, write, negate, branch, operated, operate, made, construct, perform, command}
-use Rattle.machine.specs.Represents.{values, Represents-inst, Represents}
+use Rattle.machine.specs.Represents.{values, RepresentsInst, Represents}
 use Rattle.machine.specs.Laws.RepresentsLaws.{instance_at, values_length, top, represents_length, represents_set, represents_env}
 use Rattle.machine.specs.Laws.RepresentsLaws.{represents_append}
 use Rattle.machine.specs.Laws.PerformedLaws.{performs}
@@ -68,7 +68,7 @@ has_value p (other_value {y = y} h e n) a = (y, e)
 
 module _ (p : Program) (m : Machine) (l : ℕ) (s : Sched) (σ : List Inst) (b : List Bool) (R : Represents m (state s σ b)) where
   -- instance l is put back
-  put_leads : (i : Instance) (j : Inst) → Represents-inst i j → Leads (state s (set σ l j) b) (next (put m l i))
+  put_leads : (i : Instance) (j : Inst) → RepresentsInst i j → Leads (state s (set σ l j) b) (next (put m l i))
   put_leads i j h = (R.0, represents_set m.instances σ l i j R.1 h, R.2)
 
   module _ (i : Instance) (r : List Note) (c : Coms) {k : ℕ} {ξ : Env} (ek : i.struct ≡ k) (ec : map erase r ≡ flatten c) (eξ : i.env ≡ ξ) where

@@ -30,7 +30,7 @@ use Rattle.machine.specs.Rules.{Rule.ComIfT, Rule.ComIfF}
 use Rattle.machine.specs.Stops.{Full, Full.no_label, Exceeded, Exceeded.no_result, full, exceeded}
 use Rattle.machine.specs.Machine.{Tagged, tagged, given_by, Instance, Machine, Out, Out.next, Out.refused, Out.stuck, with_code, with_written, acting}
 use Rattle.machine.specs.Machine.{put, leaves_stable, made, command}
-use Rattle.machine.specs.Represents.{values, Represents-inst, Represents}
+use Rattle.machine.specs.Represents.{values, RepresentsInst, Represents}
 use Rattle.machine.specs.Laws.RepresentsLaws.{inst_at, values_length, represents_length, represents_set, represents_env, represents_append}
 use Rattle.machine.specs.Performed.{Performed, Performed.pushed, Performed.pushed_this, Performed.negated, Performed.read_one, Performed.skipped}
 use Rattle.machine.specs.Performed.{Performed.wrote, Performed.calculated, Performed.exceeding, Performed.constructed, Performed.filled}
@@ -70,7 +70,7 @@ parted n χ = rw (reverse-reverse, ← map-append, take-append-drop)
 
 module _ (p : Program) (m : Machine) (l : ℕ) (s : Sched) (σ : List Inst) (b : List Bool) (R : Represents m (state s σ b)) where
   -- instance l is put back
-  put_follows : (i : Instance) (j : Inst) → Rule p (instance l) (state s σ b) (state s (set σ l j) b) → Represents-inst i j
+  put_follows : (i : Instance) (j : Inst) → Rule p (instance l) (state s σ b) (state s (set σ l j) b) → RepresentsInst i j
       → Follows p l (state s σ b) (next (put m l i))
   put_follows i j r h = (state s (set σ l j) b, r, (R.0, represents_set m.instances σ l i j R.1 h, R.2))
 

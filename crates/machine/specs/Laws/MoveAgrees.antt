@@ -12,7 +12,7 @@ use Rattle.machine.specs.Published.{StepCall, StepCall.global, StepCall.local, c
 use Rattle.machine.specs.Published.{before, Inst, Inst.inst, State, State.state}
 use Rattle.machine.specs.Rules.{Done, given, started, Actor.schedule, Rule, Rule.InitG, Rule.InitL, Rule.FixInit, Rule.FixIter, Rule.FixTerm}
 use Rattle.machine.specs.Machine.{Instance, Machine, machine, Moved, Moved.next, Moved.stuck, given as equip, started as begin, repeat, move_by, move}
-use Rattle.machine.specs.Represents.{values, Represents-inst, Represents-all, Represents}
+use Rattle.machine.specs.Represents.{values, RepresentsInst, RepresentsAll, Represents}
 use Rattle.machine.specs.Laws.RepresentsLaws.{Still, still_done, represents_map}
 
 -- what an outcome of a move says of the published state
@@ -22,19 +22,19 @@ Moves p s σ b stuck = Unit {0}
 
 module _ (p : Program) where
   -- the commands of a step with their notes stand for those of rules InitG and InitL
-  given_represents : (o : Option Stmts) (i : Instance) (j : Inst) → Represents-inst i j → Represents-inst (equip p o i) (given o j)
+  given_represents : (o : Option Stmts) (i : Instance) (j : Inst) → RepresentsInst i j → RepresentsInst (equip p o i) (given o j)
   unfolding equip given values commands
   given_represents none i (inst k c χ ξ) r = r
   given_represents (some b) i (inst k c χ ξ) r = (r.0, erased (context p i.struct b) b, refl, r.3)
 
   -- an instance of the machine begins the step where that of the state does
-  pub started_represents : (a : StepCall) (i : Instance) (j : Inst) → Represents-inst i j → Represents-inst (begin p a i) (started p a j)
+  pub started_represents : (a : StepCall) (i : Instance) (j : Inst) → RepresentsInst i j → RepresentsInst (begin p a i) (started p a j)
   unfolding begin
   started_represents a i (inst k c χ ξ) r =
-      subst (λ x. Represents-inst (equip p (called p a x) i) (started p a (inst k c χ ξ))) (sym r.0) (given_represents (called p a k) i (inst k c χ ξ) r)
+      subst (λ x. RepresentsInst (equip p (called p a x) i) (started p a (inst k c χ ξ))) (sym r.0) (given_represents (called p a k) i (inst k c χ ξ) r)
 
   -- and all of them do
-  starts_represent : (a : StepCall) (is : List Instance) (σ : List Inst) → Represents-all is σ → Represents-all (map (begin p a) is) (map (started p a) σ)
+  starts_represent : (a : StepCall) (is : List Instance) (σ : List Inst) → RepresentsAll is σ → RepresentsAll (map (begin p a) is) (map (started p a) σ)
   starts_represent a is σ R = represents_map (begin p a) (started p a) (started_represents a) is σ R
 
   -- each kind of call has its published rule
@@ -44,7 +44,7 @@ module _ (p : Program) where
   initiated (local k n) d = InitL d refl
 
   -- what a move comes to follows the rules
-  moves_by : (s : Sched) (is : List Instance) (σ : List Inst) (b : List Bool) (n : ℕ) → Represents-all is σ → Moves p s σ b (move_by p s is b n)
+  moves_by : (s : Sched) (is : List Instance) (σ : List Inst) (b : List Bool) (n : ℕ) → RepresentsAll is σ → Moves p s σ b (move_by p s is b n)
   unfolding move_by repeat
   moves_by done is σ b n R = tt
   moves_by (start a s) is σ b n R = λ d. (state s (map (started p a) σ) b, initiated a d, (refl, starts_represent a is σ R, refl))
@@ -54,7 +54,7 @@ module _ (p : Program) where
   moves_by (active f s) is σ (false ∷ b) n R = λ d. (state (before f (active f s)) σ (true ∷ b), FixIter d refl, (refl, R, refl))
 
   -- a rule for the schedule gives what the move comes to
-  leads_by : {s : Sched} (is : List Instance) {σ : List Inst} {b : List Bool} (q : ℕ) {st : State} → Represents-all is σ → Rule p schedule (state s σ b) st
+  leads_by : {s : Sched} (is : List Instance) {σ : List Inst} {b : List Bool} (q : ℕ) {st : State} → RepresentsAll is σ → Rule p schedule (state s σ b) st
       → (m' : Machine) × (move_by p s is b q ≡ next m') × (Represents m' st)
   unfolding move_by repeat
   leads_by is {σ} {b} q R (InitG {s = s} {n = n} d e) =

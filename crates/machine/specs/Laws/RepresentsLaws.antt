@@ -13,18 +13,18 @@ use Rattle.commands.specs.Laws.CommandLaws.{flatten_injective}
 use Rattle.machine.specs.Published.{Env, Inst, Inst.inst, State, State.state, update_env}
 use Rattle.machine.specs.Rules.{Done}
 use Rattle.machine.specs.Machine.{Tagged, tagged, Instance, Machine, update_env as change_env}
-use Rattle.machine.specs.Represents.{values, Represents-inst, Represents-all, Represents}
+use Rattle.machine.specs.Represents.{values, RepresentsInst, RepresentsAll, Represents}
 
 -- Place by place -----------------------------------------------------------------
 
-abbrev pub Represents-at : Option Instance → Option Inst → Type 0
-Represents-at none none = Unit {0}
-Represents-at none (some j) = ⊥
-Represents-at (some i) none = ⊥
-Represents-at (some i) (some j) = Represents-inst i j
+abbrev pub RepresentsAt : Option Instance → Option Inst → Type 0
+RepresentsAt none none = Unit {0}
+RepresentsAt none (some j) = ⊥
+RepresentsAt (some i) none = ⊥
+RepresentsAt (some i) (some j) = RepresentsInst i j
 
 -- what stands at a place of the one represents what stands there of the other
-pub represents_at : (is : List Instance) (σ : List Inst) (l : ℕ) → Represents-all is σ → Represents-at (get_elem? is l) (get_elem? σ l)
+pub represents_at : (is : List Instance) (σ : List Inst) (l : ℕ) → RepresentsAll is σ → RepresentsAt (get_elem? is l) (get_elem? σ l)
 represents_at [] [] l R = tt
 represents_at [] (j ∷ σ) l R = absurd R
 represents_at (i ∷ is) [] l R = absurd R
@@ -32,25 +32,25 @@ represents_at (i ∷ is) (j ∷ σ) zero R = R.0
 represents_at (i ∷ is) (j ∷ σ) (suc l) R = represents_at is σ l R.1
 
 -- an instance of the state has one of the machine that represents it
-pub instance_at : (is : List Instance) (σ : List Inst) (l : ℕ) {j : Inst} → Represents-all is σ → get_elem? σ l ≡ some j
-    → (i : Instance) × (get_elem? is l ≡ some i) × (Represents-inst i j)
+pub instance_at : (is : List Instance) (σ : List Inst) (l : ℕ) {j : Inst} → RepresentsAll is σ → get_elem? σ l ≡ some j
+    → (i : Instance) × (get_elem? is l ≡ some i) × (RepresentsInst i j)
 instance_at is σ l {j} R e = go (get_elem? is l) refl (rw e at (represents_at is σ l R))
   where
-    go : (o : Option Instance) → get_elem? is l ≡ o → Represents-at o (some j) → (i : Instance) × (get_elem? is l ≡ some i) × (Represents-inst i j)
+    go : (o : Option Instance) → get_elem? is l ≡ o → RepresentsAt o (some j) → (i : Instance) × (get_elem? is l ≡ some i) × (RepresentsInst i j)
     go none g r = absurd r
     go (some i) g r = (i, g, r)
 
 -- an instance of the machine stands for one of the state, with its own struct, stack and environment
-pub inst_at : (is : List Instance) (σ : List Inst) (l : ℕ) {i : Instance} → Represents-all is σ → get_elem? is l ≡ some i
+pub inst_at : (is : List Instance) (σ : List Inst) (l : ℕ) {i : Instance} → RepresentsAll is σ → get_elem? is l ≡ some i
     → (c : Coms) × (get_elem? σ l ≡ some (inst i.struct c (values i.stack) i.env)) × (map erase i.code ≡ flatten c)
 inst_at is σ l {i} R e = go (get_elem? σ l) refl (rw e at (represents_at is σ l R))
   where
-    go : (o : Option Inst) → get_elem? σ l ≡ o → Represents-at (some i) o
+    go : (o : Option Inst) → get_elem? σ l ≡ o → RepresentsAt (some i) o
         → (c : Coms) × (get_elem? σ l ≡ some (inst i.struct c (values i.stack) i.env)) × (map erase i.code ≡ flatten c)
     go none g r = absurd r
     go (some (inst k c χ ξ)) g (a, b, x, y) = (c, g ∙ cc, b)
 
-pub represents_length : (is : List Instance) (σ : List Inst) → Represents-all is σ → length is ≡ length σ
+pub represents_length : (is : List Instance) (σ : List Inst) → RepresentsAll is σ → length is ≡ length σ
 represents_length [] [] R = refl
 represents_length [] (j ∷ σ) R = absurd R
 represents_length (i ∷ is) [] R = absurd R
@@ -58,7 +58,7 @@ represents_length (i ∷ is) (j ∷ σ) R = ap suc (represents_length is σ R.1)
 
 -- an instance is replaced on both sides
 pub represents_set : (is : List Instance) (σ : List Inst) (l : ℕ) (i : Instance) (j : Inst)
-    → Represents-all is σ → Represents-inst i j → Represents-all (set is l i) (set σ l j)
+    → RepresentsAll is σ → RepresentsInst i j → RepresentsAll (set is l i) (set σ l j)
 represents_set [] [] l i j R r = tt
 represents_set [] (y ∷ σ) l i j R r = absurd R
 represents_set (x ∷ is) [] l i j R r = absurd R
@@ -67,7 +67,7 @@ represents_set (x ∷ is) (y ∷ σ) (suc l) i j R r = (R.0, represents_set is �
 
 -- an environment is replaced on both sides
 pub represents_env : (is : List Instance) (σ : List Inst) (l : ℕ) {ξ η : Env}
-    → Represents-all is σ → ξ ≡ η → Represents-all (change_env is l ξ) (update_env σ l η)
+    → RepresentsAll is σ → ξ ≡ η → RepresentsAll (change_env is l ξ) (update_env σ l η)
 unfolding change_env update_env
 represents_env [] [] l R e = tt
 represents_env [] (y ∷ σ) l R e = absurd R
@@ -77,7 +77,7 @@ represents_env (x ∷ is) (y ∷ σ) (suc l) R e = (R.0, represents_env is σ l 
 
 -- an instance is added on both sides
 pub represents_append : (is : List Instance) (σ : List Inst) (i : Instance) (j : Inst)
-    → Represents-all is σ → Represents-inst i j → Represents-all (is ++ i ∷ []) (σ ++ j ∷ [])
+    → RepresentsAll is σ → RepresentsInst i j → RepresentsAll (is ++ i ∷ []) (σ ++ j ∷ [])
 represents_append [] [] i j R r = (r, tt)
 represents_append [] (y ∷ σ) i j R r = absurd R
 represents_append (x ∷ is) [] i j R r = absurd R
@@ -85,8 +85,8 @@ represents_append (x ∷ is) (y ∷ σ) i j R r = (R.0, represents_append is σ 
 
 -- every instance is changed on both sides
 pub represents_map : (f : Instance → Instance) (g : Inst → Inst)
-    → ((i : Instance) (j : Inst) → Represents-inst i j → Represents-inst (f i) (g j))
-    → (is : List Instance) (σ : List Inst) → Represents-all is σ → Represents-all (map f is) (map g σ)
+    → ((i : Instance) (j : Inst) → RepresentsInst i j → RepresentsInst (f i) (g j))
+    → (is : List Instance) (σ : List Inst) → RepresentsAll is σ → RepresentsAll (map f is) (map g σ)
 represents_map f g h [] [] R = tt
 represents_map f g h [] (y ∷ σ) R = absurd R
 represents_map f g h (x ∷ is) [] R = absurd R
@@ -124,7 +124,7 @@ abbrev pub Still : List Instance → Type 0
 Still is = All (λ i. i.code ≡ []) is
 
 -- no instance holds commands exactly when none of the state does
-pub still_done : (is : List Instance) (σ : List Inst) → Represents-all is σ → (Still is) ↔ (Done σ)
+pub still_done : (is : List Instance) (σ : List Inst) → RepresentsAll is σ → (Still is) ↔ (Done σ)
 still_done [] [] R = (λ s. tt, λ s. tt)
 still_done [] (y ∷ σ) R = absurd R
 still_done (x ∷ is) [] R = absurd R
@@ -136,7 +136,7 @@ still_done (x ∷ is) (inst k c χ ξ ∷ σ) R =
 -- One state ----------------------------------------------------------------------
 
 -- instances stand for one list of instances of a state
-pub represents_all_unique : (is : List Instance) (σ τ : List Inst) → Represents-all is σ → Represents-all is τ → σ ≡ τ
+pub represents_all_unique : (is : List Instance) (σ τ : List Inst) → RepresentsAll is σ → RepresentsAll is τ → σ ≡ τ
 represents_all_unique [] [] [] R Q = refl
 represents_all_unique [] [] (z ∷ τ) R Q = absurd Q
 represents_all_unique [] (y ∷ σ) τ R Q = absurd R

@@ -10,7 +10,7 @@ use Rattle.machine.specs.Published.{Inst, Inst.inst, State, State.state}
 use Rattle.machine.specs.Rules.{Actor, Actor.instance, Actor.schedule, Rule}
 use Rattle.machine.specs.Stops.{Full, Exceeded, full, exceeded}
 use Rattle.machine.specs.Machine.{Tagged, tagged, Instance, Machine, machine}
-use Rattle.machine.specs.Represents.{values, Represents-all, Represents}
+use Rattle.machine.specs.Represents.{values, RepresentsAll, Represents}
 use Rattle.machine.specs.Laws.RepresentsLaws.{represents_unique}
 use Rattle.machine.specs.Laws.CommandAgrees.{command_complete, command_full, command_exceeded}
 use Rattle.machine.specs.Laws.MoveAgrees.{move_complete}
@@ -53,7 +53,7 @@ values_tags (x ∷ χ) = ap (λ l. x ∷ l) (values_tags χ)
 noting : Inst → Instance
 noting (inst k c χ ξ) = record { struct = k; code = map note (flatten c); stack = tags χ; env = ξ; written = [] }
 
-noting_represents : (σ : List Inst) → Represents-all (map noting σ) σ
+noting_represents : (σ : List Inst) → RepresentsAll (map noting σ) σ
 unfolding noting
 noting_represents [] = tt
 noting_represents (inst k c χ ξ ∷ σ) = ((refl, erase_notes (flatten c), values_tags χ, refl), noting_represents σ)

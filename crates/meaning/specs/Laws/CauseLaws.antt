@@ -35,8 +35,8 @@ use Rattle.meaning.specs.Means.{ItemMeans.execution_means, ItemMeans.typed_means
 use Rattle.meaning.specs.Means.{SchedMeans.barrier_means, Means, Means.means}
 use Rattle.meaning.specs.Unmeant.{Among, Among.first, Among.other, One, One.this_one, One.later_one}
 use Rattle.meaning.specs.Unmeant.{Outside, Outside.int_outside, Outside.nat_outside, arguments, alive_after, met_after, all_met, NoStruct}
-use Rattle.meaning.specs.Unmeant.{NoType, NoType.no_type, Leads-nowhere.int_nowhere, Leads-nowhere.nat_nowhere}
-use Rattle.meaning.specs.Unmeant.{Leads-nowhere.bool_nowhere, Leads-nowhere.no_struct_there, NoFurther, NoFurther.no_parameter}
+use Rattle.meaning.specs.Unmeant.{NoType, NoType.no_type, LeadsNowhere.int_nowhere, LeadsNowhere.nat_nowhere}
+use Rattle.meaning.specs.Unmeant.{LeadsNowhere.bool_nowhere, LeadsNowhere.no_struct_there, NoFurther, NoFurther.no_parameter}
 use Rattle.meaning.specs.Unmeant.{NoFurther.no_parameter_before, NoFurther.not_after, NotAfter, NotAfter.leads_nowhere, NotAfter.not_in, NoPath}
 use Rattle.meaning.specs.Unmeant.{NoPath.no_variable, NoPath.no_variable_before, NoPath.not_after_parameter, NoPath.not_after_local}
 use Rattle.meaning.specs.Unmeant.{Miscounted, Miscounted.miscounted, NoExp, NoExp.in_left, NoExp.in_right, NoExp.in_brackets, NoExp.in_negation}

@@ -35,7 +35,7 @@ use Rattle.meaning.specs.Means.{StatsMean, StatsMean.no_stats_mean, StatsMean.st
 use Rattle.meaning.specs.Means.{StepMeans, StepMeans.step_means, StepsMean, StepsMean.steps_mean, ItemMeans, ItemMeans.execution_means}
 use Rattle.meaning.specs.Means.{ItemMeans.typed_means, ItemMeans.fix_means, SchedMeans, SchedMeans.last_means, SchedMeans.barrier_means, Means}
 use Rattle.meaning.specs.Means.{Means.means}
-use Rattle.meaning.specs.Meant.{then, provided, each, literal_meaning, Start, Path-of, Behind, type_meaning, referred, further, started, start}
+use Rattle.meaning.specs.Meant.{then, provided, each, literal_meaning, Start, PathOf, Behind, type_meaning, referred, further, started, start}
 use Rattle.meaning.specs.Meant.{path_meaning, exp_meaning, exps_meaning, stat_meaning, stats_meaning, pars_meaning, step_meaning, steps_meaning}
 use Rattle.meaning.specs.Meant.{item_meaning, sched_meaning, text_meaning, meant}
 use Rattle.meaning.specs.Finding.{decides_absent, decides_distinct, find_sound}
@@ -122,7 +122,7 @@ module _ (ds : List Struct) where
             let (p, q, r) = then_parts (find par_id x own) _ f in
             rw (← same_answer r) (a_parameter (find_sound par_id x own p q))
 
-    path_sound : (v : Var) (p : Path-of) → path_meaning ds own alive v ≡ some p → PathMeans ds own alive v p.first p.rest
+    path_sound : (v : Var) (p : PathOf) → path_meaning ds own alive v ≡ some p → PathMeans ds own alive v p.first p.rest
     unfolding path_meaning
     path_sound (one_id x) p e = let (s, q, r) = then_parts (start ds own alive x) _ e in rw (← same_answer r) (alone (start_sound x s q))
     path_sound (dot x v) p e =

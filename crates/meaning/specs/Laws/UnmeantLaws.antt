@@ -24,7 +24,7 @@ use Rattle.meaning.specs.Means.{ItemMeans.execution_means, ItemMeans.typed_means
 use Rattle.meaning.specs.Means.{SchedMeans.barrier_means, Means, Means.means}
 use Rattle.meaning.specs.Unmeant.{Among, Among.first, Among.other, Twice, Twice.again, Twice.later_twice, One, One.this_one, One.later_one}
 use Rattle.meaning.specs.Unmeant.{Outside, Outside.int_outside, Outside.nat_outside, arguments, alive_after, met_after, all_met}
-use Rattle.meaning.specs.Unmeant.{NoType, NoType.no_type, Leads-nowhere, Leads-nowhere.no_struct_there, NoFurther, NoFurther.no_parameter}
+use Rattle.meaning.specs.Unmeant.{NoType, NoType.no_type, LeadsNowhere, LeadsNowhere.no_struct_there, NoFurther, NoFurther.no_parameter}
 use Rattle.meaning.specs.Unmeant.{NoFurther.no_parameter_before, NoFurther.not_after, NotAfter, NotAfter.leads_nowhere, NotAfter.not_in, NoPath}
 use Rattle.meaning.specs.Unmeant.{NoPath.no_variable, NoPath.no_variable_before, NoPath.not_after_parameter, NoPath.not_after_local}
 use Rattle.meaning.specs.Unmeant.{Miscounted, Miscounted.miscounted, NoExp, NoExp.in_left, NoExp.in_right, NoExp.in_brackets, NoExp.in_negation}
@@ -95,7 +95,7 @@ module _ (ds : List Struct) where
   type_none : {t : TypeName} {u : Ty} → NoType ds t → TypeMeans ds t u → ⊥
   type_none (no_type a) (struct_is f) = found_there struct_id _ f a
 
-  nowhere_none : {t : TypeName} {d : Struct} → Leads-nowhere ds t → Refers ds t d → ⊥
+  nowhere_none : {t : TypeName} {d : Struct} → LeadsNowhere ds t → Refers ds t d → ⊥
   nowhere_none (no_struct_there a) (refers f) = found_there struct_id _ f a
 
   mutual

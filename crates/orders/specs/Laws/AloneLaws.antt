@@ -10,7 +10,7 @@ use Rattle.program.specs.Tree.{Items, Step, Program, items}
 use Rattle.program.specs.Counts.{All, fixes, fixes_in, CountsItem, CountsItems, CountsSchedule, CountsStepTo, CountsTo, Counts}
 use Rattle.commands.specs.Accepted.{Accepted}
 use Rattle.commands.specs.Bounds.{item_count, items_count, program_size, Within}
-use Rattle.commands.specs.Names.{names_of_steps, NamedSteps, Had, Scheduled-item, Scheduled, NamesRight}
+use Rattle.commands.specs.Names.{names_of_steps, NamedSteps, Had, ScheduledItem, Scheduled, NamesRight}
 use Rattle.commands.specs.Typing.{TypedSteps, TypesRight}
 use Rattle.machine.specs.Published.{Env, State}
 use Rattle.machine.specs.Rules.{LeavesStable, LeavesStable.no_parameter, LeavesStable.same_value, LeavesStable.other_value, Actor.instance, Rule}
@@ -106,14 +106,14 @@ module _ (p : Program) (is : Items) where
 -- a step that some struct has is named within the range
 all_named : (levels : ℕ) (ar : List ℕ) (ts : List Step) (n : ℕ) → All (CountsStepTo levels ar) ts → Memᴰ n (names_of_steps ts) → n < step_names
 unfolding CountsStepTo names_of_steps
-all_named levels ar [] n a u = absurd (Memᴰ.not_nil u)
+all_named levels ar [] n a u = absurd (Memᴰ.not-nil u)
 all_named levels ar (t ∷ ts) n a u =
     ⊎_elim (λ e. subst (λ x. x < step_names) (sym e) a.0.0) (λ w. all_named levels ar ts n a.1 w) (Memᴰ.cases_cons u)
 
 had_named : (levels : ℕ) (ar : List ℕ) (tss : List (List Step)) (k n : ℕ)
     → All (λ ts. (0 ≤ length ts) × (length ts ≤ 8) × All (CountsStepTo levels ar) ts) tss → Memᴰ n (names_of_steps (get_or tss k [])) → n < step_names
 unfolding names_of_steps
-had_named levels ar [] k n a u = absurd (Memᴰ.not_nil u)
+had_named levels ar [] k n a u = absurd (Memᴰ.not-nil u)
 had_named levels ar (ts ∷ tss) zero n a u = all_named levels ar ts n a.0.2 u
 had_named levels ar (ts ∷ tss) (suc k) n a u = had_named levels ar tss k n a.1 u
 
@@ -128,7 +128,7 @@ typed_alone p n k (ts ∷ tss) (a, c) = (a, typed_alone p n (suc k) tss c)
 
 pub alone_accepted : (p : Program) (n : ℕ) → Accepted p → Had n p.steps → Accepted (alone p n)
 unfolding Counts CountsTo CountsSchedule CountsItem CountsItems items fixes fixes_in Within program_size items_count item_count NamesRight Scheduled
-    Scheduled-item TypesRight
+    ScheduledItem TypesRight
 alone_accepted p n (c, w, m, t) h =
     let low = had_named 16 (map length p.params) p.steps h.0 n c.2 h.1 in (
       (c.0, c.1, c.2, (omega arith, omega arith, (low, tt), omega arith)),

@@ -101,7 +101,7 @@ module _ {p : Program} (firm : Firm p) where
   pub zero_order : {m z : Machine} {st : State} {ls : List ℕ} → Stood p m st → Zeros p m ls z → ZeroOrder p m st ls z
   unfolding deeds_of
   zero_order {m} {st = st} S no_zero =
-      record { last = st; ordered = no_turn; stood = S; did = λ x h. absurd (Memᴰ.not_nil h); turns = no_byte }
+      record { last = st; ordered = no_turn; stood = S; did = λ x h. absurd (Memᴰ.not-nil h); turns = no_byte }
   zero_order {m} {z} {st} S (a_zero {m' = m'} {ls = ls} h c t) =
       let (st', r, S', touched) = turn_stood S c in
       let o = zero_order S' t in

@@ -76,7 +76,7 @@ both_right false t e = let z : false ≡ true = e in let y : ◌≡◌ {A = ℕ}
 
 every_one : {A : Type 0} (f : A → Bool) (xs : List A) → every f xs ≡ true → (x : A) → Memᴰ x xs → f x ≡ true
 unfolding every
-every_one f [] e x h = absurd (Memᴰ.not_nil h)
+every_one f [] e x h = absurd (Memᴰ.not-nil h)
 every_one f (y ∷ ys) e x h =
     ⊎_elim (λ q. ap f q ∙ both_left (f y) (every f ys) e) (λ u. every_one f ys (both_right (f y) (every f ys) e) x u) (Memᴰ.cases_cons h)
 

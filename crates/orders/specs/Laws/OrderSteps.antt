@@ -165,7 +165,7 @@ module _ {p : Program} (firm : Firm p) where
     traced = stay;
     stood = S;
     long = refl;
-    did = λ x h. absurd (Memᴰ.not_nil h);
+    did = λ x h. absurd (Memᴰ.not-nil h);
   }
   ordered_traced {m} {st} S (a_turn {l = l} {ls = ls} r o) =
       let (d, n, s, S') = rule_step S r in

@@ -22,7 +22,7 @@ use Rattle.orders.specs.Laws.StepAnswerLaws.{stepped_had}
 -- a step that some struct has
 had_stepped : (n : ℕ) (tss : List (List Step)) (k : ℕ) → Memᴰ n (names_of_steps (get_or tss k [])) → stepped n tss ≡ true
 unfolding stepped names_of_steps
-had_stepped n [] k u = absurd (Memᴰ.not_nil u)
+had_stepped n [] k u = absurd (Memᴰ.not-nil u)
 had_stepped n (ts ∷ tss) zero u = rw ((reflects_iff (member_reflects n (names_of_steps ts))).1 u)
 had_stepped n (ts ∷ tss) (suc k) u = go (member n (names_of_steps ts)) (had_stepped n tss k u)
   where

@@ -47,7 +47,7 @@ module _ (T U : Past) (to : (x : Act Deed) → T x → U x) (back : (x : Act Dee
   tell_same ms h q v = says_same q v (ms q v) (h q v)
 
 pub none_more : (T : Past) (ms : Marks) → Tell T ms → Tell (within T []) ms
-none_more T ms h = tell_same T (within T []) (λ x t. inl t) (λ x u. ⊎_elim (λ t. t) (λ n. absurd (Memᴰ.not_nil n)) u) ms h
+none_more T ms h = tell_same T (within T []) (λ x t. inl t) (λ x u. ⊎_elim (λ t. t) (λ n. absurd (Memᴰ.not-nil n)) u) ms h
 
 -- one act, and then others
 sooner : (T : Past) (y : Act Deed) (ds : List (Act Deed)) (x : Act Deed) → within (also T y) ds x → within T (y ∷ ds) x

@@ -137,7 +137,7 @@ module _ (p : Program) (hs : List Held) (few : length hs ≤ max_instances) (r :
       → (y : ℕ) → Memᴰ y xs
       → (v : Val) × (get_or (localed b xs ws) y none ≡ some v) × (ValueAmong is (body_local b y int) v)
   unfolding localed
-  localed_at b [] ws low e y m = absurd (Memᴰ.not_nil m)
+  localed_at b [] ws low e y m = absurd (Memᴰ.not-nil m)
   localed_at b (x ∷ xs) [] low e y m = absurd e
   localed_at b (x ∷ xs) (w ∷ ws) low e y m = go (ℕ_discrete y x) (λ k. localed_at b xs ws (λ z j. low z (Memᴰ.tail j)) e.1 y k)
     where
@@ -232,7 +232,7 @@ module _ {p : Program} (ok : Accepted p) (q : Paused) (counted : CountedPaused p
         -- where a step of a pass begins nothing lives, elsewhere all that is living counts as written
         now : (i : Instance) (b : Stmts) (n : ℕ) → (n ≡ 0) ⊎ (written_in p al.job i ≡ i.written) → Among (alive (lives b)) []
             → (x : ℕ) → Memᴰ x (alive (drop n (lives b))) → Memᴰ x i.written → Memᴰ x (written_in p al.job i)
-        now i b n (inl z) first x m w = absurd (Memᴰ.not_nil (first x (subst (λ (y : ℕ). Memᴰ x (alive (drop y (lives b)))) z m)))
+        now i b n (inl z) first x m w = absurd (Memᴰ.not-nil (first x (subst (λ (y : ℕ). Memᴰ x (alive (drop y (lives b)))) z m)))
         now i b n (inr e) first x m w = subst (λ ys. Memᴰ x ys) (sym e) w
 
     -- without commands
@@ -270,7 +270,7 @@ module _ {p : Program} (ok : Accepted p) (q : Paused) (counted : CountedPaused p
                 let (vs, w) = st.own f in
                 let (us, u) = fresh_own st.way f in
                 restored_own p hs few r [] us labels h.stack h.struct l (sym stack ∙ u) vs w;
-            locals = λ x k. absurd (Memᴰ.not_nil k);
+            locals = λ x k. absurd (Memᴰ.not-nil k);
           }) (inl refl);
         }
 

@@ -50,7 +50,7 @@ Apart (x ∷ xs) = ((y : ℕ) → Memᴰ y xs → y ≡ x → ⊥) × (Apart xs)
 
 among_from : (x k : ℕ) (l : List ℕ) (y : ℕ) → Memᴰ y (among x k l) → x ≤ y
 unfolding among
-among_from x zero l y m = absurd (Memᴰ.not_nil m)
+among_from x zero l y m = absurd (Memᴰ.not-nil m)
 among_from x (suc k) l y m = go (member x l) m (λ n. among_from (suc x) k l y n)
   where
     go : (t : Bool) → Memᴰ y (elim t [ true ↦ x ∷ among (suc x) k l | false ↦ among (suc x) k l ])

@@ -53,7 +53,7 @@ use Rattle.paused.specs.Laws.PausableAllowed.{held_struct, job, started, job_is,
 localed_word : (b : Stmts) (f : ℕ → ℕ) (xs : List ℕ) → ((x : ℕ) → Memᴰ x xs → x < max_locals) → (y : ℕ) → Memᴰ y xs
     → get_or (localed b xs (map f xs)) y none ≡ some (value_of (body_local b y int) (f y))
 unfolding localed
-localed_word b f [] low y m = absurd (Memᴰ.not_nil m)
+localed_word b f [] low y m = absurd (Memᴰ.not-nil m)
 localed_word b f (x ∷ xs) low y m = go (ℕ_discrete y x) (λ k. localed_word b f xs (λ z j. low z (Memᴰ.tail j)) y k)
   where
     v : Val
@@ -150,7 +150,7 @@ module _ {p : Program} (ok : Accepted p) {m : Machine} (start : Startable p m)
           code = e;
           stack = go place;
           params = params_back p m.instances start.tabled.few r (params_of p i.struct) i.env (start.good.all.each l i at).fitted;
-          locals = λ x k. absurd (Memᴰ.not_nil k);
+          locals = λ x k. absurd (Memᴰ.not-nil k);
         })
       where
         go : Place p start.good.runs m.instances l i → i.stack ≡ restored all [] (map (λ x. word x.is) i.stack)

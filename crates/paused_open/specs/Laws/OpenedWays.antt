@@ -11,7 +11,7 @@ use borrow.Author.Tests.{leb-true, ltb-true}
 use Rattle.types.specs.Limits.{max_instances, fix_levels}
 use Rattle.program.specs.Reader.{byte_end}
 use Rattle.block.specs.Block.{payload_size}
-use Rattle.block.specs.declared.Found.{Found as Found-blocks}
+use Rattle.block.specs.declared.Found.{Found as FoundBlocks}
 use Rattle.types.specs.Numbers.{paused_stream, paused_state}
 use Rattle.block.specs.declared.Fault.{Fault}
 use Rattle.block.specs.declared.Found.TheVariants.{Right, Wrong}
@@ -174,7 +174,7 @@ pub found_in : (counts y : List ℕ) (h : Head) → image_scanned counts y ≡ S
 unfolding image_scanned scan_found opened
 found_in counts y h e = go (fault image_blocks y) refl e
   where
-    go : (f : Found-blocks) → fault image_blocks y ≡ f → scan_found counts y f ≡ Stream h → FoundIn counts (stream y) h
+    go : (f : FoundBlocks) → fault image_blocks y ≡ f → scan_found counts y f ≡ Stream h → FoundIn counts (stream y) h
     go (Wrong f) u v = absurd (false≢true (ap has_stream v))
     go Right u v = found_by counts (stream y) (opened_stream image_blocks y (length (stream y)) (ap (λ f. opened f (length (stream y))) u)).2 h v
 

@@ -97,6 +97,7 @@ tested_exact t = record {
 
     passed : (n b m : ℕ) (v : Bool) → T v → guard v n b m ≡ ok b m
     passed n b m true c = refl
+    passed n b m false c = elim c [ ]
 
     complete : (s : List ℕ) (b n m : ℕ) → T (t b) → Stands s n (b ∷ []) m → tested s t n ≡ ok b m
     complete s b n m c (letter l e done) = then_ok _ (byte_ok s l e) (passed n b m (t b) c)
@@ -119,9 +120,11 @@ between_iff lo hi b = (
   where
     apart : (x y : Bool) → T (x && y) → (T x) × (T y)
     apart true y h = (tt, h)
+    apart false y h = elim h [ ]
 
     joined : (x y : Bool) → T x → T y → T (x && y)
     joined true y h k = k
+    joined false y h k = elim h [ ]
 
 -- a byte of a range
 pub ranged_exact : (lo hi : ℕ) → Exact (Within lo hi) (λ b. b ∷ []) (λ s. ranged s lo hi)

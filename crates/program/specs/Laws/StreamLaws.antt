@@ -108,10 +108,12 @@ module _ {A : Type 0} {C : A → Type 0} {E : A → List ℕ} {r : List ℕ → 
   -- a byte that is not allowed is final: no stream that goes on behind it is read
   pub final : (s t : List ℕ) (p : ℕ) → whole r s ≡ bad p wrong_byte → whole r (s ++ t) ≡ bad p wrong_byte
   unfolding whole then
-  final s t p e = go (r (s ++ t) 0) (rw (refuses s p e) at (cut_0 s t))
+  final s t p e = go (r (s ++ t) 0) (length s) (length (s ++ t)) (bad p wrong_byte) refl (rw (refuses s p e) at (cut_0 s t))
     where
-      go : (u : Result A) → Cut 0 (length s) (length (s ++ t)) (bad p wrong_byte) u → then u (ended (s ++ t)) ≡ bad p wrong_byte
-      go u (stop h i) = refl
+      go : (u : Result A) (n m : ℕ) (v : Result A) → v ≡ bad p wrong_byte → Cut 0 n m v u → then u (ended (s ++ t)) ≡ bad p wrong_byte
+      go u n m v e (same i l) = cc
+      go u n m v e (stop h i) = rw e
+      go u n m v e (short b) = let z : ◌≡◌ {A = ℕ} 4 5 = cc in absurd (omega arith)
 
   -- a byte that is not allowed is the first one: the stream before it is only too short, and what stands behind it does not matter
   pub first : (s t : List ℕ) (b : ℕ) → whole r (s ++ b ∷ t) ≡ bad (length s) wrong_byte

@@ -21,7 +21,7 @@ use Rattle.syntax.specs.Yield.{literal_token}
 use Rattle.meaning.specs.Scope.{par_id, par_type, pars_of, struct_id}
 use Rattle.meaning.specs.Values.{decimal, signed}
 use Rattle.meaning.specs.Finding.{Place, find}
-use Rattle.meaning.specs.Meant.{then, provided, literal_meaning, type_meaning, referred, further, Start, start, Path-of, path_meaning, exp_meaning}
+use Rattle.meaning.specs.Meant.{then, provided, literal_meaning, type_meaning, referred, further, Start, start, PathOf, path_meaning, exp_meaning}
 use Rattle.meaning.specs.Meant.{exps_meaning}
 use Rattle.text_shape.specs.Roles.{Naming, Naming.first_read, Naming.made, Part.brackets_close, Part.args_open, Part.args_close, Part.no_args_close, Role}
 use Rattle.text_shape.specs.Roles.{Role.plain, Role.naming, Role.part, roles_later, roles_var, close_of, roles_exp, roles_exps, roles_exp_list}
@@ -127,13 +127,13 @@ module _ (ds : List Struct) (names : List Id) where
 
   -- a path, by what its first variable is
   pub var_told : (p : Pass) (n : Naming) → ((x : Id) → pass ds names (naming n x) p ≡ starts ds names x p) → (v : Var)
-      → Outcome ds names {A = Path-of} (λ c. true) (λ u t. told p (var_code u.first ∷ u.rest) t) (path_meaning ds p.own p.alive v)
+      → Outcome ds names {A = PathOf} (λ c. true) (λ u t. told p (var_code u.first ∷ u.rest) t) (path_meaning ds p.own p.alive v)
       (λ k. passes ds names (roles_var n v k) p)
   unfolding roles_var passes pass pass_token then path_meaning told_to leaves onto starts
   var_told p n s (one_id x) = as_well ds names (go (start ds p.own p.alive x) refl) (λ k. ap (λ o. then o (passes ds names k)) (s x))
     where
       go : (o : Option Start) → start ds p.own p.alive x ≡ o
-          → Outcome ds names {A = Path-of} (λ c. true) (λ u t. told p (var_code u.first ∷ u.rest) t) (path_meaning ds p.own p.alive (one_id x))
+          → Outcome ds names {A = PathOf} (λ c. true) (λ u t. told p (var_code u.first ∷ u.rest) t) (path_meaning ds p.own p.alive (one_id x))
           (λ k. then (starts ds names x p) (passes ds names k))
       go none e = rw e (fails (λ k. refl))
       go (some b) e = rw e (goes refl b.type_of (λ k. refl))
@@ -142,7 +142,7 @@ module _ (ds : List Struct) (names : List Id) where
     where
       Goal : Type 0
       Goal =
-          Outcome ds names {A = Path-of} (λ c. true) (λ u t. told p (var_code u.first ∷ u.rest) t) (path_meaning ds p.own p.alive (dot x v))
+          Outcome ds names {A = PathOf} (λ c. true) (λ u t. told p (var_code u.first ∷ u.rest) t) (path_meaning ds p.own p.alive (dot x v))
           (λ k. then (starts ds names x p) (passes ds names (plain (sign dot_sign) ∷ roles_later v k)))
 
       on : (b : Start) → start ds p.own p.alive x ≡ some b → (o : Option Struct) → referred ds b.type_of ≡ o → Goal

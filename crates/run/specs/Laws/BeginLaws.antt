@@ -11,7 +11,7 @@ use Rattle.program.specs.Tree.{Program}
 use Rattle.commands.specs.Commands.{flatten}
 use Rattle.table.specs.Table.{Record}
 use Rattle.machine.specs.Published.{structs, Inst}
-use Rattle.machine.specs.Represents.{values, Represents-inst, Represents-all, Represents}
+use Rattle.machine.specs.Represents.{values, RepresentsInst, RepresentsAll, Represents}
 use Rattle.run.specs.Runs.{StandsFor}
 use Rattle.run.specs.Turns.{labels_from, holds_coms}
 use Rattle.run.specs.Holders.{holders}
@@ -19,16 +19,16 @@ use Rattle.run.specs.Begin.{nulls, resting, first_instances, begin}
 use Rattle.run.specs.Initial.{idle, null_insts, of_record, first_insts, initial, initially}
 use Rattle.run.specs.Laws.TurnLaws.{none_listed, map_at, flags_represent, holders_length}
 
-rests : (k : ℕ) (vs : List Val) → Represents-inst (resting k vs) (idle k vs)
+rests : (k : ℕ) (vs : List Val) → RepresentsInst (resting k vs) (idle k vs)
 unfolding values flatten
 rests k vs = (refl, refl, refl, refl)
 
-records_represent : (rs : List Record) → Represents-all (map (λ r. resting r.struct r.values) rs) (map of_record rs)
+records_represent : (rs : List Record) → RepresentsAll (map (λ r. resting r.struct r.values) rs) (map of_record rs)
 records_represent [] = tt
 records_represent (r ∷ rs) = (rests r.struct r.values, records_represent rs)
 
 all_represent : (k : ℕ) (tss : List (List Ty)) (rs : List Record)
-    → Represents-all (nulls k tss ++ map (λ r. resting r.struct r.values) rs) (null_insts k tss ++ map of_record rs)
+    → RepresentsAll (nulls k tss ++ map (λ r. resting r.struct r.values) rs) (null_insts k tss ++ map of_record rs)
 unfolding nulls null_insts
 all_represent k [] rs = records_represent rs
 all_represent k (ts ∷ tss) rs = (rests k (map default ts), all_represent (suc k) tss rs)

@@ -6,7 +6,7 @@ use Rattle.program.specs.Tree.{Program}
 use Rattle.table.specs.Table.{Record}
 use Rattle.machine.specs.Published.{Env.env, structs, Inst, Inst.inst, State, State.state}
 use Rattle.machine.specs.Machine.{Instance, Machine}
-use Rattle.machine.specs.Represents.{Represents-inst, Represents-all, Represents}
+use Rattle.machine.specs.Represents.{RepresentsInst, RepresentsAll, Represents}
 use Rattle.machine.specs.Stops.{ended, out_of_turns, full, exceeded}
 use Rattle.run.specs.Runs.{Config, Config.config, StandsFor, Runs, Halts, Halts.at_end, Halts.at_33, Halts.at_34, Halts.at_35}
 use Rattle.run.specs.Turns.{labels_from}
@@ -20,11 +20,11 @@ use Rattle.run.specs.Laws.RunsUnique.{runs_unique}
 
 -- The last table -------------------------------------------------------------------
 
-record_same : (i : Instance) (j : Inst) → Represents-inst i j → record_of i ≡ to_record j
+record_same : (i : Instance) (j : Inst) → RepresentsInst i j → record_of i ≡ to_record j
 unfolding record_of
 record_same i (inst k c χ (env ps ls)) R = rw (R.0, R.3)
 
-records_same : (n : ℕ) (is : List Instance) (σ : List Inst) → Represents-all is σ → map record_of (drop n is) ≡ map to_record (drop n σ)
+records_same : (n : ℕ) (is : List Instance) (σ : List Inst) → RepresentsAll is σ → map record_of (drop n is) ≡ map to_record (drop n σ)
 records_same zero [] [] R = refl
 records_same (suc n) [] [] R = refl
 records_same n [] (j ∷ σ) R = absurd R

@@ -11,7 +11,7 @@ use Rattle.types.specs.Values.{Val}
 use Rattle.machine.specs.Published.{Sched, Env, Inst, Inst.inst, State.state, Idle}
 use Rattle.machine.specs.Rules.{Done}
 use Rattle.machine.specs.Machine.{Instance, Machine}
-use Rattle.machine.specs.Represents.{Represents-all, Represents}
+use Rattle.machine.specs.Represents.{RepresentsAll, Represents}
 use Rattle.machine.specs.Laws.RepresentsLaws.{Still}
 use Rattle.run.specs.Turns.{labels_from, round_from, chosen, holds_coms, holders_of}
 use Rattle.run.specs.Holders.{holds_code, flag, flags, holders, none_of, due}
@@ -152,7 +152,7 @@ holds_same (n ∷ ns) k nil χ ξ e = cc
 holds_same (n ∷ ns) k (act m c) χ ξ e = refl
 holds_same (n ∷ ns) k (if_then b c) χ ξ e = refl
 
-pub flags_represent : (is : List Instance) (σ : List Inst) → Represents-all is σ → flags is ≡ map holds_coms σ
+pub flags_represent : (is : List Instance) (σ : List Inst) → RepresentsAll is σ → flags is ≡ map holds_coms σ
 flags_represent [] [] R = refl
 flags_represent [] (j ∷ σ) R = absurd R
 flags_represent (i ∷ is) [] R = absurd R

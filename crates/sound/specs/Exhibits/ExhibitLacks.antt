@@ -114,7 +114,7 @@ outlasting_lacks = record {
   command = n_get int 0;
   rest = n_this ∷ n_wr 0 0 ∷ [];
   holds = refl;
-  lacks = λ n. Memᴰ.not_nil n.3.0;
+  lacks = λ n. Memᴰ.not-nil n.3.0;
 }
 
 single_right : TableRight twice.params single

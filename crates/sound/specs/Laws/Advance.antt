@@ -21,7 +21,7 @@ use Rattle.sound.specs.Laws.Keeps.{Keeps, keeps_set, of_kept, fits_kept}
 use Rattle.sound.specs.Laws.EachLaws.{each_map}
 use Rattle.sound.specs.Laws.GoodLaws.{fitted_kept, good_set}
 use Rattle.sound.specs.Firm.{Firm}
-use Rattle.sound.specs.Laws.PassageLaws.{ctx, Living-on}
+use Rattle.sound.specs.Laws.PassageLaws.{ctx, LivingOn}
 use Rattle.sound.specs.Laws.ArriveLaws.{arrive}
 use Rattle.commands.specs.Laws.SecureWays.{way_short}
 
@@ -43,7 +43,7 @@ after i w n c χ ξ = record { struct = i.struct; code = c; stack = χ; env = ξ
 pub advance : {p : Program} → Firm p → {a : Job} (s : Sched) → Running p (some a) s
     → {is : List Instance} {l : ℕ} {i : Instance} (g : Passage p a is l i) (n : Note) {d : List Note} → g.held ≡ n ∷ d → (c : List Note) → length c ≤ length d
     → Way (ctx g) (noted (ctx g) g.body) at_start c (leads (ctx g) n g.place)
-    → Living-on g n c
+    → LivingOn g n c
     → (js : List Instance) (ts : List Ty)
     → stack_after (ctx g) n g.place.stack ≡ ts
     → (χ : List Tagged)
@@ -90,7 +90,7 @@ module _ {p : Program} (firm : Firm p) {m : Machine} (good : Good p m) {a : Job}
   -- a command that writes no variable, makes no instance and is no push this
   pub goes_on : (g : Passage p a m.instances l i) {d : List Note} → g.held ≡ n ∷ d → length c ≤ length d
       → Way (ctx g) (noted (ctx g) g.body) at_start c (leads (ctx g) n g.place)
-      → Living-on g n c
+      → LivingOn g n c
       → now_written n (written_in p a i) ≡ written_in p a i
       → is_this n ≡ false
       → (ts : List Ty)

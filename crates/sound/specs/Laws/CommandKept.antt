@@ -38,7 +38,7 @@ use Rattle.sound.specs.Laws.SizedLaws.{lasting_of}
 use Rattle.sound.specs.Laws.ValueLaws.{bool_value, label_value, ranges, result_of_type}
 use Rattle.sound.specs.Firm.{Firm}
 use Rattle.sound.specs.Laws.PassageLaws.{holder_passage, first_held, jump_within, ctx, here, tops, top_one, top_two, own_top, local_value}
-use Rattle.sound.specs.Laws.PassageLaws.{asks, kept_next, kept_past, Living-on, next_sized, way_at}
+use Rattle.sound.specs.Laws.PassageLaws.{asks, kept_next, kept_past, LivingOn, next_sized, way_at}
 use Rattle.sound.specs.Laws.Outcomes.{negated, branched, operates, has_read, leaves_null, writes_param, writes_local, constructs, finds_full}
 use Rattle.sound.specs.Laws.Advance.{running_job, Kept, after, advance, locals_kept, good_put, goes_on}
 use Rattle.sound.specs.Laws.ReadyLaws.{written_now}
@@ -133,7 +133,7 @@ module _ {p : Program} (firm : Firm p) {m : Machine} (good : Good p m) {a : Job}
       way true w = on w
       way false w = over w
 
-      living : (b : Bool) → Living-on g (n_if n) (elim b [ true ↦ c | false ↦ drop n c ])
+      living : (b : Bool) → LivingOn g (n_if n) (elim b [ true ↦ c | false ↦ drop n c ])
       living true = kept_next g firm (n_if n) c e
       living false = kept_past g firm (n_if n) c e
 

@@ -17,7 +17,7 @@ use Rattle.commands.specs.Laws.CommandLaws.{flatten_app}
 use Rattle.commands.specs.Laws.NotedLaws.{erased}
 use Rattle.machine.specs.Published.{Inst, Inst.inst, State.state}
 use Rattle.machine.specs.Machine.{Instance, Machine}
-use Rattle.machine.specs.Represents.{values, Represents-inst, Represents-all}
+use Rattle.machine.specs.Represents.{values, RepresentsInst, RepresentsAll}
 use Rattle.types.specs.Laws.ListLaws.{map_drop}
 use Rattle.machine.specs.Heads.{plain_head, if_head}
 use Rattle.run.specs.Runs.{Config, Config.config, StandsFor}
@@ -87,7 +87,7 @@ rest_nested (in_call e) = none_nested
 
 module _ {p : Program} {r : Option Job} where
   -- an instance that stands where it may stands for a published one
-  inst_stands : {is : List Instance} {l : ℕ} {i : Instance} → Place p r is l i → (j : Inst) × (Represents-inst i j)
+  inst_stands : {is : List Instance} {l : ℕ} {i : Instance} → Place p r is l i → (j : Inst) × (RepresentsInst i j)
   unfolding flatten
   inst_stands {i = i} (resting c χ) = (inst i.struct nil (values i.stack) i.env, (refl, ap (map erase) c, refl, refl))
   inst_stands {i = i} (passing g h) =
@@ -95,8 +95,8 @@ module _ {p : Program} {r : Option Job} where
       let (d, e) = subst Nested (sym g.code) (nested_join g.held g.rest held (rest_nested g.has)) in
       (inst i.struct d (values i.stack) i.env, (refl, e, refl, refl))
 
-all_stand : (is : List Instance) → ((l : ℕ) (i : Instance) → get_elem? is l ≡ some i → (j : Inst) × (Represents-inst i j))
-    → (σ : List Inst) × (Represents-all is σ)
+all_stand : (is : List Instance) → ((l : ℕ) (i : Instance) → get_elem? is l ≡ some i → (j : Inst) × (RepresentsInst i j))
+    → (σ : List Inst) × (RepresentsAll is σ)
 all_stand [] f = ([], tt)
 all_stand (i ∷ is) f =
     let (j, R) = f 0 i refl in

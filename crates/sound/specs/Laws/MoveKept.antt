@@ -118,7 +118,7 @@ module _ {p : Program} (firm : Firm p) where
           kept = begins_kept i.struct n h;
           stacked = tt;
           own = λ q. absurd (false≢true q);
-          locals = λ x h. absurd (Memᴰ.not_nil h);
+          locals = λ x h. absurd (Memᴰ.not-nil h);
         }) (inr refl);
       }
 

@@ -66,8 +66,8 @@ module _ {p : Program} {a : Job} {is : List Instance} {l : ℕ} {i : Instance} (
   here = tags g.place.stack (written_in p a i) g.place.fresh
 
   -- after the command n, with the commands c left, the living locals are written
-  abbrev pub Living-on : Note → List Note → Type 0
-  Living-on n c = Among (alive (lives_at ctx g.body c)) (now_written n (written_in p a i))
+  abbrev pub LivingOn : Note → List Note → Type 0
+  LivingOn n c = Among (alive (lives_at ctx g.body c)) (now_written n (written_in p a i))
 
   -- these types on top, and those beneath
   pub tops : (ts : List Ty) (h : Top ts g.place)
@@ -113,12 +113,12 @@ module _ {p : Program} {a : Job} {is : List Instance} {l : ℕ} {i : Instance} (
     pub jump_within : jump n ≤ length c
     jump_within = left.within
 
-    pub kept_next : Living-on n c
+    pub kept_next : LivingOn n c
     kept_next x m =
         now_more n (rw e at g.kept) x
         (left.grown x (rw (beside_on (noted ctx g.body) (lives g.body) n c (way_short way_at)) m))
 
-    pub kept_past : Living-on n (drop (jump n) c)
+    pub kept_past : LivingOn n (drop (jump n) c)
     kept_past x m =
         now_more n (rw e at g.kept) x
         (left.grown_over x (rw (beside_over (noted ctx g.body) (lives g.body) n c (way_short way_at) left.within) m))

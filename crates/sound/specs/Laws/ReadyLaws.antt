@@ -11,7 +11,7 @@ use Rattle.commands.specs.Bounds.{program_depth}
 use Rattle.machine.specs.Published.{Env, Env.env}
 use Rattle.machine.specs.Machine.{Instance, Machine}
 use Rattle.commands.specs.Tags.{Asks}
-use Rattle.sound.specs.Needs.{Needs, NextReady, Typed-params, Right}
+use Rattle.sound.specs.Needs.{Needs, NextReady, TypedParams, Right}
 use Rattle.sound.specs.Invariant.{Fits, Fitted, Job, Job.call, written_in, Passage, Place, Place.resting, Place.passing, Good}
 use Rattle.sound.specs.Laws.EachLaws.{each_length, each_reverse}
 use Rattle.sound.specs.Firm.{Firm}
@@ -57,7 +57,7 @@ module _ {p : Program} (firm : Firm p) (m : Machine) (r : Option Job) (l : ℕ) 
   is_ready (passing {a = a} g h) (n ∷ c) q =
       let (d, f, _) = first_held g q in asked m g (written_now p a i) n (asks g firm n d f)
 
-  is_typed : (ξ : Env) → Fitted m.instances (params_of p i.struct) ξ → Typed-params p m l i ξ
+  is_typed : (ξ : Env) → Fitted m.instances (params_of p i.struct) ξ → TypedParams p m l i ξ
   is_typed (env ps ls) f = f.0
 
   is_low : Place p r m.instances l i → length i.stack ≤ program_depth p

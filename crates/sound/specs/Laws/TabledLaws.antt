@@ -94,9 +94,9 @@ module _ (p : Program) {is : List Instance} (t : Tabled p is) where
 
 module _ (p : Program) where
   -- what a move comes to
-  abbrev Moves-to : Moved → Type 0
-  Moves-to (next m) = Tabled p m.instances
-  Moves-to stuck = Unit {0}
+  abbrev MovesTo : Moved → Type 0
+  MovesTo (next m) = Tabled p m.instances
+  MovesTo stuck = Unit {0}
 
   given_same : (o : Option Stmts) (i : Instance) → ((given p o i).struct ≡ i.struct) × ((given p o i).env ≡ i.env)
   unfolding given
@@ -107,7 +107,7 @@ module _ (p : Program) where
   unfolding started
   started_same a i = given_same (called p a i.struct) i
 
-  move_tabled : (s : Sched) {is : List Instance} (b : List Bool) (n : ℕ) → Tabled p is → Moves-to (move_by p s is b n)
+  move_tabled : (s : Sched) {is : List Instance} (b : List Bool) (n : ℕ) → Tabled p is → MovesTo (move_by p s is b n)
   unfolding move_by repeat
   move_tabled done b n t = tt
   move_tabled (start a s) b n t = tabled_map p t (started p a) (started_same a)
@@ -119,10 +119,10 @@ module _ (p : Program) where
 -- Commands -------------------------------------------------------------------------
 
 -- what a command comes to
-abbrev Comes-to : Program → Out → Type 0
-Comes-to p (next m) = Tabled p m.instances
-Comes-to p (refused n) = Unit {0}
-Comes-to p stuck = Unit {0}
+abbrev ComesTo : Program → Out → Type 0
+ComesTo p (next m) = Tabled p m.instances
+ComesTo p (refused n) = Unit {0}
+ComesTo p stuck = Unit {0}
 
 module _ {p : Program} (firm : Firm p) {m : Machine} (good : Good p m) (t : Tabled p m.instances) (l : ℕ) where
   -- a holder's cons names a struct of the program
@@ -131,14 +131,14 @@ module _ {p : Program} (firm : Firm p) {m : Machine} (good : Good p m) (t : Tabl
 
   performed_tabled : (i : Instance) (n : Note) (r : List Note) (o : Out) → get_elem? m.instances l ≡ some i → i.code ≡ n ∷ r
       → Performed p m l (with_written i (now_written n i.written)) r n o
-      → Comes-to p o
+      → ComesTo p o
   performed_tabled i n r o at e w = go w e
     where
       -- the actor put back
       own : (j : Instance) → j.struct ≡ i.struct → j.env ≡ i.env → Tabled p (set m.instances l j)
       own j s d = tabled_set p t l i j at (let (a, b) = t.each l i at in rw (s, d) (a, b))
 
-      go : {n : Note} {o : Out} → Performed p m l (with_written i (now_written n i.written)) r n o → i.code ≡ n ∷ r → Comes-to p o
+      go : {n : Note} {o : Out} → Performed p m l (with_written i (now_written n i.written)) r n o → i.code ≡ n ∷ r → ComesTo p o
       go pushed e = own _ refl refl
       go pushed_this e = own _ refl refl
       go (negated s) e = own _ refl refl
@@ -163,15 +163,15 @@ module _ {p : Program} (firm : Firm p) {m : Machine} (good : Good p m) (t : Tabl
       go (branched s) e = own _ refl refl
       go no_way e = tt
 
-command_tabled : {p : Program} → Firm p → {m : Machine} → Good p m → Tabled p m.instances → (l : ℕ) → Comes-to p (command p l m)
-command_tabled {p} firm {m} good t l = by_ways (Comes-to p) p m l tt (performed_tabled firm (turning_good l good) t l)
+command_tabled : {p : Program} → Firm p → {m : Machine} → Good p m → Tabled p m.instances → (l : ℕ) → ComesTo p (command p l m)
+command_tabled {p} firm {m} good t l = by_ways (ComesTo p) p m l tt (performed_tabled firm (turning_good l good) t l)
 
 -- Runs -----------------------------------------------------------------------------
 
 -- a step of a run keeps it,
 pub acts_tabled : {p : Program} → Firm p → {m z : Machine} {a : Option ℕ} → Acts p m a z → Good p m → Tabled p m.instances → Tabled p z.instances
-acts_tabled {p} firm {m} (moves h e) g t = subst (Moves-to p) e (move_tabled p m.sched m.stability m.from t)
-acts_tabled {p} firm {m} (takes {e = e} q c) g t = subst (Comes-to p) c (command_tabled firm g t (chosen (holders m) e))
+acts_tabled {p} firm {m} (moves h e) g t = subst (MovesTo p) e (move_tabled p m.sched m.stability m.from t)
+acts_tabled {p} firm {m} (takes {e = e} q c) g t = subst (ComesTo p) c (command_tabled firm g t (chosen (holders m) e))
 
 -- so it is in every machine that a run passes through
 pub visits_tabled : {p : Program} → Firm p → {m z : Machine} {es fs : List ℕ} → Good p m → Tabled p m.instances → Visits p m es z fs

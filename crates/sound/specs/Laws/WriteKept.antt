@@ -25,7 +25,7 @@ use Rattle.sound.specs.Laws.ElemLaws.{at_set_same, at_set_other, some_is}
 use Rattle.sound.specs.Laws.EachLaws.{each_map}
 use Rattle.sound.specs.Laws.EnvLaws.{other_kept, local_kept, local_holds, local_fitted, param_fitted}
 use Rattle.sound.specs.Laws.GoodLaws.{fitted_kept, good_set, good_env, meet_length}
-use Rattle.sound.specs.Laws.PassageLaws.{ctx, Living-on}
+use Rattle.sound.specs.Laws.PassageLaws.{ctx, LivingOn}
 use Rattle.sound.specs.Firm.{Firm}
 use Rattle.sound.specs.Laws.Advance.{running_job, after, advance}
 
@@ -124,7 +124,7 @@ module _ {p : Program} (firm : Firm p) (m : Machine) (l : ℕ) (i : Instance) (a
     -- a local of the actor
     pub local_kept_good : {b₀ : List Note} → g.held ≡ n_set d t y ∷ b₀ → (c : List Note) → length c ≤ length b₀
         → Way (ctx g) (noted (ctx g) g.body) at_start c (leads (ctx g) (n_set d t y) g.place)
-        → Living-on g (n_set d t y) c
+        → LivingOn g (n_set d t y) c
         → (ts : List Ty) → stack_after (ctx g) (n_set d t y) g.place.stack ≡ ts
         → (χ : List Tagged) → Each (Fits m.instances) ts χ
         → (x : Val) (b : Bool) → ValueAmong m.instances t x

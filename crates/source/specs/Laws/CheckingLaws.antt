@@ -10,7 +10,7 @@ use Rattle.std.proofs.Math.Seq.{take-append_seam}
 use Rattle.types.specs.Limits.{program_blocks, max_commands}
 use Rattle.types.specs.Orders.{Foremost}
 use Rattle.types.specs.Laws.OrderLaws.{tells_number}
-use Rattle.types.specs.Stages.{Stage.stopped as Checked-Refused, Stage.went as written, Stages}
+use Rattle.types.specs.Stages.{Stage.stopped as CheckedRefused, Stage.went as written, Stages}
 use Rattle.types.specs.Laws.StageLaws.{stage_on, stage_answer}
 use Rattle.block.specs.Block.{block_size}
 use Rattle.blocks.specs.declared.Written.TheVariants.{Blocks}
@@ -127,17 +127,17 @@ module _ (x out : List ℕ) (p : Program) (e : outcome x out ≡ written p) wher
   shallow_judged h = checked_written ∙ ap of_read ((written_read x out p e).1 h)
 
   -- and says 5 exactly where it does not
-  pub deep_exactly : (checked (written_image x out) ≡ Checked-Refused wrong_byte) ↔ (Shallow p → ⊥)
+  pub deep_exactly : (checked (written_image x out) ≡ CheckedRefused wrong_byte) ↔ (Shallow p → ⊥)
   unfolding of_read judge
   deep_exactly = (λ q h. other (breach_number p) (breach_one p) (sym (shallow_judged h) ∙ q), λ f. checked_written ∙ deep f read_or_deep)
     where
-      other : (n : ℕ) → (n ≡ 0) ⊎ ((6 ≤ n) × (n ≤ 8)) → judge p n ≡ Checked-Refused wrong_byte → ⊥
+      other : (n : ℕ) → (n ≡ 0) ⊎ ((6 ≤ n) × (n ≤ 8)) → judge p n ≡ CheckedRefused wrong_byte → ⊥
       other zero b q = let z : ◌≡◌ {A = ℕ} 0 1 = cc in omega arith
       other (suc n) (inl e) q = omega arith
       other (suc n) (inr h) q = let z : suc n ≡ wrong_byte = cc in omega arith
 
       deep : (Shallow p → ⊥) → (read_stream s ≡ ok p (length s)) ⊎ ((at : ℕ) × (read_stream s ≡ bad at wrong_byte))
-          → of_read (read_stream s) ≡ Checked-Refused wrong_byte
+          → of_read (read_stream s) ≡ CheckedRefused wrong_byte
       deep f (inl q) = absurd (f ((written_read x out p e).0 q))
       deep f (inr q) = ap of_read q.1
 
@@ -156,28 +156,28 @@ module _ (x out : List ℕ) (p : Program) (e : outcome x out ≡ written p) wher
 
   -- 7 is said for a step alone: one that stands twice in its struct, or a typed call of one that its struct has not, where the nesting keeps to its levels
   -- and the program to its bounds
-  pub seven_for_steps : (checked (written_image x out) ≡ Checked-Refused wrong_names) ↔ ((Shallow p) × (Within p) × (StepsRight p → ⊥))
+  pub seven_for_steps : (checked (written_image x out) ≡ CheckedRefused wrong_names) ↔ ((Shallow p) × (Within p) × (StepsRight p → ⊥))
   unfolding judge of_read
   seven_for_steps = (λ q. forth q read_or_deep, λ h. back h)
     where
       named : StepsRight p → NamesRight p
       named r = steps_left ((text_written x out p).0 e).1.means r
 
-      numbered : (n : ℕ) → judge p n ≡ Checked-Refused wrong_names → n ≡ wrong_names
+      numbered : (n : ℕ) → judge p n ≡ CheckedRefused wrong_names → n ≡ wrong_names
       numbered zero k = let z : ◌≡◌ {A = ℕ} 0 1 = cc in absurd (omega arith)
       numbered (suc n) k = cc
 
-      judged : Shallow p → judge p (breach_number p) ≡ Checked-Refused wrong_names → (Shallow p) × (Within p) × (StepsRight p → ⊥)
+      judged : Shallow p → judge p (breach_number p) ≡ CheckedRefused wrong_names → (Shallow p) × (Within p) × (StepsRight p → ⊥)
       judged h k = let b = (number_names p).0 (numbered (breach_number p) k) in (h, b.0, λ r. b.1 (named r))
 
-      forth : checked (written_image x out) ≡ Checked-Refused wrong_names
+      forth : checked (written_image x out) ≡ CheckedRefused wrong_names
           → (read_stream s ≡ ok p (length s)) ⊎ ((at : ℕ) × (read_stream s ≡ bad at wrong_byte)) → (Shallow p) × (Within p) × (StepsRight p → ⊥)
       forth q (inl k) = let h = (written_read x out p e).0 k in judged h (sym (shallow_judged h) ∙ q)
       forth q (inr k) =
           let d = checked_written ∙ ap of_read k.1 in
           let z : ◌≡◌ {A = ℕ} wrong_byte wrong_names = cc in absurd (omega arith)
 
-      back : (Shallow p) × (Within p) × (StepsRight p → ⊥) → checked (written_image x out) ≡ Checked-Refused wrong_names
+      back : (Shallow p) × (Within p) × (StepsRight p → ⊥) → checked (written_image x out) ≡ CheckedRefused wrong_names
       back h = shallow_judged h.0 ∙ ap (judge p) ((number_names p).1 (h.1, λ n. h.2 (names_steps p n)))
 
 -- Reading and then checking ---------------------------------------------------------------------------

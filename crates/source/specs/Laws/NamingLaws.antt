@@ -4,9 +4,9 @@ use Rattle.std.specs.Prelude.{ℕ, ◌<◌, ◌≤◌, ◌≡◌, refl, length}
 use Rattle.std.proofs.Common.{arith, inl, inr}
 use mathlib.Core.List.Memᴰ
 use mathlib.Core.List.{List, [], ◌∷◌, ◌++◌, map, Memᴰ}
-use Rattle.program.specs.Tree.{Var as Variable, Expr, Exprs, Stmt, Stmts, Step as Named-step}
+use Rattle.program.specs.Tree.{Var as Variable, Expr, Exprs, Stmt, Stmts, Step as NamedStep}
 use Rattle.program.specs.Counts.{All}
-use Rattle.commands.specs.Names.{Starts as Named-start, Names, Names-all, declares, declared, live_after, Named-stmt, Named}
+use Rattle.commands.specs.Names.{Starts as NamedStart, Names, NamesAll, declares, declared, live_after, NamedStmt, Named}
 use Rattle.commands.specs.Laws.RangeLaws.{all_append}
 use Rattle.syntax.specs.Syntax.{Id, TypeName, Literal, Var, Exp, Exps, Stat, Stats, Par, Step, Struct}
 use Rattle.meaning.specs.Scope.{Found, Found.here, Found.later, Local, local_id, local_number}
@@ -29,7 +29,7 @@ living (later f q) = Memᴰ.tail (living q)
 
 -- where all are below a number, so is a member, and all are below a larger one
 below_member : {n x : ℕ} (l : List ℕ) → All (λ k. k < n) l → Memᴰ x l → x < n
-below_member [] h m = absurd (Memᴰ.not_nil m)
+below_member [] h m = absurd (Memᴰ.not-nil m)
 below_member (y ∷ l) h m = elim (Memᴰ.cases_cons m) [ inl e ↦ rw e h.0 | inr k ↦ below_member l h.1 k ]
 
 all_below : {n m : ℕ} (l : List ℕ) → n ≤ m → All (λ k. k < n) l → All (λ k. k < m) l
@@ -47,11 +47,11 @@ module _ (ds : List Struct) (own : List Par) where
   abbrev numbers : List Local → List ℕ
   numbers alive = map local_number alive
 
-  start_named : {alive : List Local} {x : Id} {u : Variable} {t : TypeName} → Starts ds own alive x u t → Named-start (length own) (numbers alive) u
+  start_named : {alive : List Local} {x : Id} {u : Variable} {t : TypeName} → Starts ds own alive x u t → NamedStart (length own) (numbers alive) u
   start_named (a_parameter f) = found_below f
   start_named (a_local g f) = living f
 
-  path_named : {alive : List Local} {v : Var} {u : Variable} {vs : List ℕ} → PathMeans ds own alive v u vs → Named-start (length own) (numbers alive) u
+  path_named : {alive : List Local} {v : Var} {u : Variable} {vs : List ℕ} → PathMeans ds own alive v u vs → NamedStart (length own) (numbers alive) u
   path_named (alone s) = start_named s
   path_named (behind s r f) = start_named s
 
@@ -68,17 +68,17 @@ module _ (ds : List Struct) (own : List Par) where
     exp_named (null_means t) = tt
     exp_named this_means = tt
 
-    exps_named : {alive : List Local} {es : Exps} {cs : Exprs} → ExpsMean ds own alive es cs → Names-all cs (length own) (numbers alive)
+    exps_named : {alive : List Local} {es : Exps} {cs : Exprs} → ExpsMean ds own alive es cs → NamesAll cs (length own) (numbers alive)
     exps_named no_exps_mean = tt
     exps_named (exps_mean a b) = (exp_named a, exps_named b)
 
   -- the locals declared so far are numbered below those to come
   mutual
-    unfolding Named-stmt declares local_number
+    unfolding NamedStmt declares local_number
 
     stat_named : {alive after : List Local} {met met' : List Id} {t : Stat} {u : Stmt} → StatMeans ds own alive met t u after met' → (seen : List ℕ)
         → All (λ k. k < length met) seen
-        → (Named-stmt u (length own) (numbers alive) seen) × (length met ≤ length met') × (All (λ k. k < length met') (declares u))
+        → (NamedStmt u (length own) (numbers alive) seen) × (length met ≤ length met') × (All (λ k. k < length met') (declares u))
         × (numbers after ≡ live_after u (numbers alive))
     stat_named (if_means e b) seen h = let q = stats_named b seen h in ((exp_named e, q.0), q.1, q.2, refl)
     stat_named (assignment_means t a o n e) seen h =
@@ -97,6 +97,6 @@ module _ (ds : List Struct) (own : List Par) where
         ((p.0, rw (← p.3) q.0), omega (arith, p.1, q.1), all_append _ (declares u) (declared c) (all_below (declares u) q.1 p.2) q.2)
 
 -- the variables of a step are named right
-pub step_named : {ds : List Struct} {names : List Id} {own : List Par} {t : Step} {u : Named-step} → StepMeans ds names own t u
+pub step_named : {ds : List Struct} {names : List Id} {own : List Par} {t : Step} {u : NamedStep} → StepMeans ds names own t u
     → Named u.body (length own) [] []
 step_named {ds = ds} {own = own} (step_means f b) = (stats_named ds own b [] tt).0

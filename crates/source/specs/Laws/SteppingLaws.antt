@@ -6,9 +6,9 @@ use Rattle.std.proofs.Math.Logic.{inl, inr}
 use mathlib.Core.List.Memᴰ
 use mathlib.Core.List.{List, [], ◌∷◌, ◌++◌, map, Memᴰ}
 use Rattle.types.specs.Types.{Ty}
-use Rattle.program.specs.Tree.{Item as Call, Item.call, Item.call_in, Item.fix, Items, Items.stop, Items.item, Step as Named-step, Program}
+use Rattle.program.specs.Tree.{Item as Call, Item.call, Item.call_in, Item.fix, Items, Items.stop, Items.item, Step as NamedStep, Program}
 use Rattle.program.specs.Counts.{All}
-use Rattle.commands.specs.Names.{Once, Named, names_of_steps, NamedSteps, Had, Scheduled-item, Scheduled, NamesRight}
+use Rattle.commands.specs.Names.{Once, Named, names_of_steps, NamedSteps, Had, ScheduledItem, Scheduled, NamesRight}
 use Rattle.syntax.specs.Syntax.{Id, Par, Step, Struct, Item, Sched, Program as Derivation}
 use Rattle.meaning.specs.Scope.{Found, Found.here, Found.later, Each, Each.no_more, Each.and_then, step_id, steps_of, structs_of}
 use Rattle.meaning.specs.StepNames.{among, once, all_steps, step_names}
@@ -16,7 +16,7 @@ use Rattle.meaning.specs.Means.{ParsMean, ParsMean.pars_mean, StepMeans, StepMea
 use Rattle.meaning.specs.Means.{ItemMeans, ItemMeans.execution_means, ItemMeans.typed_means, ItemMeans.fix_means, SchedMeans, SchedMeans.last_means}
 use Rattle.meaning.specs.Means.{SchedMeans.barrier_means, Means, Means.means}
 use Rattle.source.specs.Laws.NamingLaws.{step_named}
-use Rattle.source.specs.Stepping.{TypedThere-item, TypedThere, StepsRight}
+use Rattle.source.specs.Stepping.{TypedThereItem, TypedThere, StepsRight}
 
 -- Rows ------------------------------------------------------------------------------------------
 
@@ -55,11 +55,11 @@ each_length (and_then r e) = ap suc (each_length e)
 module _ (ds : List Struct) (names : List Id) where
   -- Steps -------------------------------------------------------------------------------------------
 
-  steps_named : {own : List Par} {l : List Step} {us : List Named-step} → Each (StepMeans ds names own) l us → All (λ t. Named t.body (length own) [] []) us
+  steps_named : {own : List Par} {l : List Step} {us : List NamedStep} → Each (StepMeans ds names own) l us → All (λ t. Named t.body (length own) [] []) us
   steps_named no_more = tt
   steps_named (and_then m e) = (step_named m, steps_named e)
 
-  structs_named : (p : Program) (k : ℕ) {ss : List Struct} {us : List (List Ty)} {tss : List (List Named-step)}
+  structs_named : (p : Program) (k : ℕ) {ss : List Struct} {us : List (List Ty)} {tss : List (List NamedStep)}
       → ((j : ℕ) → get_or p.params (k + j) [] ≡ get_or us j []) → Each (ParsMean ds) ss us → Each (StepsMean ds names) ss tss
       → All (λ ts. Once (names_of_steps ts)) tss → NamedSteps p k tss
   structs_named p k h no_more no_more o = tt
@@ -69,29 +69,29 @@ module _ (ds : List Struct) (names : List Id) where
 
   -- Calls -------------------------------------------------------------------------------------------
 
-  in_struct : {x y : Id} {n : ℕ} {own : List Par} {l : List Step} {us : List Named-step} → Found (λ z. z) x n y names → Each (StepMeans ds names own) l us
+  in_struct : {x y : Id} {n : ℕ} {own : List Par} {l : List Step} {us : List NamedStep} → Found (λ z. z) x n y names → Each (StepMeans ds names own) l us
       → Memᴰ x (map step_id l) → Memᴰ n (names_of_steps us)
   unfolding names_of_steps step_id
-  in_struct f no_more h = absurd (Memᴰ.not_nil h)
+  in_struct f no_more h = absurd (Memᴰ.not-nil h)
   in_struct f (and_then (step_means g b) e) h = elim (Memᴰ.cases_cons h) [
     | inl q ↦ Memᴰ.head (found_one f (rw (← q) at g))
     | inr m ↦ Memᴰ.tail (in_struct f e m)
   ]
 
-  had : {x y : Id} {n : ℕ} {ss : List Struct} {tss : List (List Named-step)} → Found (λ z. z) x n y names → Each (StepsMean ds names) ss tss
+  had : {x y : Id} {n : ℕ} {ss : List Struct} {tss : List (List NamedStep)} → Found (λ z. z) x n y names → Each (StepsMean ds names) ss tss
       → Memᴰ x (all_steps ss) → Had n tss
   unfolding all_steps
-  had f no_more h = absurd (Memᴰ.not_nil h)
+  had f no_more h = absurd (Memᴰ.not-nil h)
   had {x = x} f (and_then {l = l} (steps_mean {d = d} e) r) h = elim (of_both (map step_id (steps_of d)) (all_steps l) h) [
     | inl m ↦ (0, in_struct f e m)
     | inr m ↦ let q = had f r m in (suc q.0, q.1)
   ]
 
-  module _ (tss : List (List Named-step)) (h : (x y : Id) (n : ℕ) → Found (λ z. z) x n y names → Had n tss) where
+  module _ (tss : List (List NamedStep)) (h : (x y : Id) (n : ℕ) → Found (λ z. z) x n y names → Had n tss) where
     mutual
       unfolding Scheduled TypedThere
 
-      item_named : {i : Item} {c : Call} → ItemMeans ds names i c → TypedThere-item c tss → Scheduled-item c tss
+      item_named : {i : Item} {c : Call} → ItemMeans ds names i c → TypedThereItem c tss → ScheduledItem c tss
       item_named (execution_means f) t = h _ _ _ f
       item_named (typed_means f g) t = t
       item_named (fix_means s) t = sched_named s t
@@ -111,19 +111,19 @@ steps_left {p = p} (means {d = d} {ts = ts} o us ss s) r =
 
 -- The other way: where names are right, so are steps -----------------------------------------------
 
-once_each : (p : Program) (k : ℕ) (tss : List (List Named-step)) → NamedSteps p k tss → All (λ ts. Once (names_of_steps ts)) tss
+once_each : (p : Program) (k : ℕ) (tss : List (List NamedStep)) → NamedSteps p k tss → All (λ ts. Once (names_of_steps ts)) tss
 once_each p k [] h = tt
 once_each p k (ts ∷ tss) h = (h.0, once_each p (suc k) tss h.2)
 
 mutual
   unfolding Scheduled TypedThere
 
-  typed_item : (c : Call) (tss : List (List Named-step)) → Scheduled-item c tss → TypedThere-item c tss
+  typed_item : (c : Call) (tss : List (List NamedStep)) → ScheduledItem c tss → TypedThereItem c tss
   typed_item (call n) tss h = tt
   typed_item (call_in k n) tss h = h
   typed_item (fix is) tss h = typed_items is tss h
 
-  typed_items : (is : Items) (tss : List (List Named-step)) → Scheduled is tss → TypedThere is tss
+  typed_items : (is : Items) (tss : List (List NamedStep)) → Scheduled is tss → TypedThere is tss
   typed_items stop tss h = tt
   typed_items (item c is) tss h = (typed_item c tss h.0, typed_items is tss h.1)
 

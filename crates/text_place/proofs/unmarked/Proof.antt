@@ -3,13 +3,13 @@ use Prim.Native.Nat.{◌+◌, ◌-◌, ◌≤◌}
 use mathlib.Core.Path.{sym, ◌∙◌}
 use native.Mathlib.Omega.{arith}
 use lib.ListN.{length}
-use Rattle.text_place.specs.PlaceLaws.{Marked-to, marked_start, marked_end, marked_stray, marked_inside, marked_next}
+use Rattle.text_place.specs.PlaceLaws.{MarkedTo, marked_start, marked_end, marked_stray, marked_inside, marked_next}
 use borrow.Author.Rules.{rules}
 use Rattle.text_place.proofs.unmarked.Statement.{statement}
 use Rattle.text_place.proofs.unmarked.Tie as tie
 
 abbrev invariant_loop : tie.invariant_loop
-invariant_loop text i₀ i = Marked-to text i
+invariant_loop text i₀ i = MarkedTo text i
 
 abbrev decreases_loop : tie.decreases_loop
 decreases_loop text i₀ i = length text - i

@@ -120,19 +120,19 @@ module _ (x t l k o : List ℕ) (c : Scope) (y : Id) (role : ℕ) where
   name_par e = rw e refl
 
   -- the names of structs and steps are looked up among those that the role says
-  abbrev Left-at : ℕ → Type 0
-  Left-at z = seen_left used (seen_listed (called_among book z) y c.typ) ≡ named z
+  abbrev LeftAt : ℕ → Type 0
+  LeftAt z = seen_left used (seen_listed (called_among book z) y c.typ) ≡ named z
 
-  left_at_step : (z : ℕ) → z ≡ new_step_role → Left-at z
+  left_at_step : (z : ℕ) → z ≡ new_step_role → LeftAt z
   unfolding naming_at use_name called_among chosen use_in
   left_at_step z w = rw w (left_listed used book.steps y)
 
-  left_from_called : called_role ≤ role → role < par_int_role → Left-at role
+  left_from_called : called_role ≤ role → role < par_int_role → LeftAt role
   unfolding naming_at use_name called_among chosen use_in
   left_from_called low high =
-      next_or Left-at called_role role low (left_listed used book.steps y)
-      (λ h. next_or Left-at called_struct_role role h (left_listed used book.structs y)
-      (λ h. next_or Left-at called_step_role role h (left_listed used book.steps y) (λ h. absurd (omega (arith, h, high)))))
+      next_or LeftAt called_role role low (left_listed used book.steps y)
+      (λ h. next_or LeftAt called_struct_role role h (left_listed used book.structs y)
+      (λ h. next_or LeftAt called_step_role role h (left_listed used book.steps y) (λ h. absurd (omega (arith, h, high)))))
 
   pub name_step : {s : Seen} {r : Passed} → role ≡ new_step_role → s ≡ seen_listed (called_among book role) y c.typ → r ≡ seen_passed c s
       → passed_in x l k r o ≡ named role

@@ -267,8 +267,8 @@ module _ {M : Type 1} {𝓤 : Ura M} (𝓛 : Logic 𝓤) (mem : Memory → SProp
   abbrev Nearer : Upto → Upto → Type 0
   Nearer j i = turns_left es j.s < turns_left es i.s
 
-  Nearer-wf : WellFounded Nearer
-  Nearer-wf = InvImage.wf (λ (i : Upto). turns_left es i.s) lt-wf_rel.wf
+  NearerWf : WellFounded Nearer
+  NearerWf = InvImage.wf (λ (i : Upto). turns_left es i.s) lt-wf_rel.wf
 
   abbrev Post : Val → SProp 𝓤
   Post = (walk_of 𝓛 take.ended stayed (take.clauses 𝓛 mem run)).post
@@ -597,7 +597,7 @@ module _ {M : Type 1} {𝓤 : Ura M} (𝓛 : Logic 𝓤) (mem : Memory → SProp
       begun = record { s = s₀; rs = rs₀; h = h₀; c = c₀; is_s = is-s₀; len_rs = is-rs₀.1.0.1; len_h = refl; len_c = refl; kept = kept_none due }
 
       all_turns : Sq 𝓛 (At begun) (runs C Λ En looped (at_ret En Post))
-      all_turns = first ! $ blocks ! $ loops ! 𝓣 Nearer Nearer-wf At turns begun
+      all_turns = first ! $ blocks ! $ loops ! 𝓣 Nearer NearerWf At turns begun
 
       -- the locals, the tokens, and what the parameters own
       abbrev Fresh : List (Item 𝓤)

@@ -1,0 +1,7 @@
+-- `default_word` meets its contract: a default's word is the number of its struct.
+use mathlib.Core.Path.{◌∙◌, sym}
+use Rattle.types.specs.Laws.ValueLaws.{default_word}
+use Rattle.types.proofs.default_word.Goals as goal
+
+pub returns : goal.returns
+returns c = c.struct_of.ensures ∙ sym (default_word _)

@@ -1,0 +1,6 @@
+-- `is_reference` meets its contract.
+use Rattle.types.specs.Laws.TypeLaws.{ref_byte}
+use Rattle.types.proofs.is_reference.Goals as goal
+
+pub returns : goal.returns
+returns c = ref_byte _
