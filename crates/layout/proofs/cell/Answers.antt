@@ -1,0 +1,8 @@
+-- `cell` meets its contract: the sum is the coding's.
+use Rattle.std.proofs.Common.{refl}
+use Rattle.commands.specs.Coding.{coded}
+use Rattle.layout.proofs.cell.Goals as goal
+
+pub returns : goal.returns
+unfolding coded
+returns c = refl
