@@ -5,7 +5,7 @@ use Rattle.std.proofs.Common.{arith, sub-one}
 use Rattle.std.specs.Prelude.{◌≡◌}
 use Rattle.std.proofs.Math.Path.{refl, ap}
 use Rattle.program.specs.Reader.{Result, Result.ok, Result.bad, then, made, many}
-use Rattle.answers.specs.Answers.{Answer, Answer.value, Answer.refused, answer}
+use Rattle.answers.specs.Answers.{Answer.value, Answer.refused, answer}
 
 module _ {A F : Type 0} (f : A → F) where
   -- what was read, from what was answered
