@@ -1,5 +1,5 @@
 -- Laws of words as bytes: one word after the other.
-use Rattle.std.specs.Prelude.{ℕ, suc, ◌+◌, ◌≤◌, ◌<◌, ◌≡◌, refl, true, false, List, [], ◌∷◌, length, set, drop, get_or}
+use Rattle.std.specs.Prelude.{ℕ, ◌+◌, ◌≤◌, ◌<◌, ◌≡◌, List, ◌∷◌, length, set, drop, get_or}
 use Rattle.std.proofs.Common.{arith, ◌∙◌, drop-cons}
 use Rattle.std.proofs.Math.Numerals.{add-one}
 use Rattle.std.proofs.Math.Path.{sym}
@@ -8,7 +8,6 @@ use Rattle.std.proofs.lemmas.List.Edits.{sets}
 use borrow.Author.Tests.{lt-ltb, le-ltb}
 use Rattle.numbers.specs.Scan.{unmarked, bytes_of, bytes_answer}
 use Rattle.numbers.specs.ScanLaws.{sets_out}
-use Rattle.numbers.specs.declared.Bytes.{Bytes}
 use Rattle.numbers.specs.declared.Bytes.TheVariants.{Count, Large, Long}
 
 -- i words of ws were written: what is left leads to the answer and to the bytes of the whole

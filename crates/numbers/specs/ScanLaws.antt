@@ -1,5 +1,5 @@
 -- Laws of numbers from text: one byte after the other, and words written past the end of their places.
-use Rattle.std.specs.Prelude.{ℕ, zero, suc, ◌+◌, ◌*◌, ◌-◌, ◌≤◌, ◌<◌, ◌≡◌, refl, Bool, true, false, List, [], ◌∷◌, ◌++◌, ltb, length, set}
+use Rattle.std.specs.Prelude.{ℕ, suc, ◌+◌, ◌≤◌, ◌<◌, ◌≡◌, refl, Bool, true, false, List, [], ◌∷◌, ltb, length, set}
 use Rattle.std.proofs.Common.{arith, add-one, sym, ◌∙◌, length-append, drop_of_length-le, drop-cons, ltb-false}
 use Rattle.std.proofs.Math.Path.{ap}
 use Rattle.std.proofs.Math.ListN.{drop, get_or}
@@ -10,10 +10,9 @@ use Rattle.numbers.specs.declared.Char.{Char}
 use Rattle.numbers.specs.declared.State.{State}
 use Rattle.numbers.specs.declared.Step.{Step}
 use Rattle.numbers.specs.declared.Step.TheVariants.{Go, Number, Stray, Over}
-use Rattle.numbers.specs.declared.Turn.{Turn}
-use Rattle.numbers.specs.declared.Turn.TheVariants.{Next, Strange as StrangeTurn, Large as LargeTurn, Full}
+use Rattle.numbers.specs.declared.Turn.TheVariants.{Next, Full}
 use Rattle.numbers.specs.declared.Scanned.{Scanned}
-use Rattle.numbers.specs.declared.Scanned.TheVariants.{Numbers, Strange, Large, Long}
+use Rattle.numbers.specs.declared.Scanned.TheVariants.{Numbers}
 
 -- where no place is left nothing is written
 pub sets_out : (l : List ℕ) (n : ℕ) (ws : List ℕ) → length l ≤ n → sets l n ws ≡ l

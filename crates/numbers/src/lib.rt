@@ -1,6 +1,7 @@
 // Numbers in decimal from text: blanks, tabs, commas and line ends part them, a minus sign may stand before one. A number is handed out as
 // one word, with a mark where it is the first of its line and one where it has a minus sign (docs/FORMAT.md, 'Numbers as text').
 #![tactic(auto)]
+
 ghost use Rattle.std.specs.Prelude.{◌≡◌, ◌++◌, [], ◌∷◌, ◌+◌, ◌*◌, ◌≤◌, ◌<◌, length, get_or, take};
 ghost use Rattle.std.proofs.lemmas.List.Edits.{sets};
 ghost use Rattle.numbers.specs.Scan.{char_of, step, in_gap, behind_sign, longer, in_number, coded, turn_of, turn_into, scanned, words};

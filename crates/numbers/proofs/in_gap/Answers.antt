@@ -1,0 +1,14 @@
+-- `numbers::in_gap` meets its contract.
+use Rattle.numbers.proofs.in_gap.Goals as goal
+
+pub returns-in-Digit : goal.returns-in-Digit
+returns-in-Digit c = rw c.in-Digit.is
+
+pub returns-in-Minus : goal.returns-in-Minus
+returns-in-Minus c = rw c.in-Minus.is
+
+pub returns-in-Line : goal.returns-in-Line
+returns-in-Line c = rw c.in-Line.is
+
+pub returns-in-Blank : goal.returns-in-Blank
+returns-in-Blank c = rw c.in-Blank.is
