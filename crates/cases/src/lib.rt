@@ -1,6 +1,7 @@
 // Parts of the cases by which two engines are compared (docs/CASES.md): numbers of four bytes, and the digests of a list and
 // of bytes.
 #![tactic(auto)]
+
 ghost use Rattle.std.specs.Prelude.{◌≡◌, ◌<◌, ◌≤◌, length, drop};
 ghost use Rattle.cases.specs.Cases.{modulus, digested, word_digested, list_digest, bytes_digest, number};
 
