@@ -66,6 +66,8 @@ module _ (pss : List (List Ty)) where
           let h : ts ≡ bs ++ b ∷ us = cc in
           let q = append_assoc (enc_value v) (flat enc_value vs) u in
           in_second v (flat enc_value vs ++ u) (rw e g.0) (rw i q) (in_values bs b us vs u h g.1 refl f)
+      back k x (in_values [] b us (v ∷ vs) u d g i f) = elim g [ ]
+      back k x (in_values (c ∷ bs) b us [] u d g i f) = elim g [ ]
 
   -- a record: its struct byte, or a value behind it
   abbrev RecordFault : ℕ → List ℕ → Type 0

@@ -38,6 +38,8 @@ values_length (v ∷ vs) = simp length-append (omega (arith, word_length value_b
 pub each_length : {A : Type 0} (P : Ty → A → Type 0) (ts : List Ty) (xs : List A) → Each P ts xs → length xs ≡ length ts
 each_length P [] [] h = refl
 each_length P (t ∷ ts) (x ∷ xs) h = ap suc (each_length P ts xs h.1)
+each_length {A = A} P [] (x ∷ xs) h = elim h [ ]
+each_length {A = A} P (t ∷ ts) [] h = elim h [ ]
 
 -- where every struct has at most n parameters, so has the one that a byte names
 pub few_params : (n : ℕ) (pss : List (List Ty)) → All (λ ps. length ps ≤ n) pss → (k : ℕ) → length (get_or pss k []) ≤ n

@@ -38,6 +38,7 @@ module _ {A : Type 0} {C : A → Type 0} {E : A → List ℕ} {r : List ℕ → 
 
       complete : (n : ℕ) (a : A) (m : ℕ) (v : Bool) → T v → guard v n a m ≡ ok a m
       complete n a m true c = refl
+      complete n a m false c = elim c [ ]
 
       ahead : (s : List ℕ) (n : ℕ) (a : A) (k : ℕ) → r s n ≡ ok a k → n < k
       ahead s n a k e =
@@ -98,6 +99,7 @@ values_exact [] = record {
   where
     complete : (s : List ℕ) (vs : List Val) (n m : ℕ) → Each Held [] vs → Stands s n (flat enc_value vs) m → ok [] n ≡ ok vs m
     complete s [] n m c w = rw (stands_none w)
+    complete s (_ ∷ _) n m c w = elim c [ ]
 values_exact (t ∷ ts) =
     made_exact (pair_exact (value_exact t) λ v. values_exact ts) (λ p. p.0 ∷ p.1) parts
     (λ p h. (h, refl))
@@ -109,6 +111,7 @@ values_exact (t ∷ ts) =
 
     both_parts : (vs : List Val) → Each Held (t ∷ ts) vs → ((Held t (parts vs).0) × (Each Held ts (parts vs).1)) × ((parts vs).0 ∷ (parts vs).1 ≡ vs)
     both_parts (v ∷ vs) h = (h, refl)
+    both_parts [] h = elim h [ ]
 
 module _ (pss : List (List Ty)) where
   pub record_exact : Exact (HeldRecord pss) enc_record (λ s. read_record pss s)

@@ -35,6 +35,8 @@ all_append C (a ∷ l) m h k = (h.0, all_append C l m h.1 k)
 each_append : (ts us : List Ty) (vs ws : List Val) → Each Held ts vs → Each Held us ws → Each Held (ts ++ us) (vs ++ ws)
 each_append [] us [] ws h k = k
 each_append (t ∷ ts) us (v ∷ vs) ws h k = (h.0, each_append ts us vs ws h.1 k)
+each_append [] us (v ∷ vs) ws h k = elim h [ ]
+each_append (t ∷ ts) us [] ws h k = elim h [ ]
 
 -- a value of each type, to go on with
 abbrev zeros : List Ty → List Val

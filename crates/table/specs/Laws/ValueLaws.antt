@@ -18,6 +18,18 @@ word_below nat (nat_val n) h = (h, h)
 word_below bool (bool_val true) h = (omega arith, omega arith)
 word_below bool (bool_val false) h = (omega arith, omega arith)
 word_below (ref k) (label l) h = (h, h)
+word_below int (nat_val n) h = elim h [ ]
+word_below int (bool_val _) h = elim h [ ]
+word_below int (label l) h = elim h [ ]
+word_below nat (int_val _) h = elim h [ ]
+word_below nat (bool_val _) h = elim h [ ]
+word_below nat (label l) h = elim h [ ]
+word_below bool (int_val _) h = elim h [ ]
+word_below bool (nat_val n) h = elim h [ ]
+word_below bool (label l) h = elim h [ ]
+word_below (ref k) (int_val _) h = elim h [ ]
+word_below (ref k) (nat_val n) h = elim h [ ]
+word_below (ref k) (bool_val _) h = elim h [ ]
 
 -- a value is that of its word, which four bytes hold and its type allows
 pub value_of_word : (t : Ty) (v : Val) → Held t v → (word v < nat_end) × (T (allowed t (word v))) × (value_of t (word v) ≡ v)
