@@ -63,6 +63,7 @@ unfolding acted
 does_acted s (Go q) st (does_go d e) = shape_as s q st d e
 does_acted s (Open q r) st (does_open d e) = shape_as s q (r ∷ st) d e
 does_acted s Stop st (does_stop e) = e
+does_acted s Below st x' = elim x' [ ]
 
 abbrev LeadsAt : List ℕ → Token → State → Act → Type 0
 LeadsAt st t s a = Leads st t s a
