@@ -1,0 +1,8 @@
+-- `rows::put_row` meets its contract: four numbers side by side.
+use Rattle.directory.specs.RowsLaws.{put_row_is}
+use Rattle.directory.proofs.rows.put_row.Goals as goal
+
+pub returns : goal.returns
+returns c =
+    let a = c.args in
+    put_row_is a.rows.now a.i a.r _ _ _ _ c.store.ensures c.store-2.ensures c.store-3.ensures c.store-4.ensures
