@@ -208,6 +208,7 @@ module _ (ds : List Struct) where
           → (p : Place Id) × (Found (λ z. z) x p.at p.element (step_names ds))
       go r (so p f) = (p, f)
       go (inr n) (not_so a) = absurd (among_absent (same_row n) a)
+      go (inl x3) (not_so a) = elim x3 [ ]
 
   abbrev Within : List Id → Type 0
   Within l = (x : Id) → Among x l → Among x (all_steps ds)

@@ -24,6 +24,7 @@ use Rattle.meaning.specs.Means.{ItemMeans.execution_means, ItemMeans.typed_means
 use Rattle.meaning.specs.Means.{SchedMeans.barrier_means, Means, Means.means}
 use Rattle.meaning.specs.Unmeant.{Among, Among.first, Among.other, Twice, Twice.again, Twice.later_twice, One, One.this_one, One.later_one}
 use Rattle.meaning.specs.Unmeant.{Outside, Outside.int_outside, Outside.nat_outside, arguments, alive_after, met_after, all_met}
+use Rattle.meaning.specs.Unmeant.{LeadsNowhere.int_nowhere, LeadsNowhere.nat_nowhere, LeadsNowhere.bool_nowhere}
 use Rattle.meaning.specs.Unmeant.{NoType, NoType.no_type, LeadsNowhere, LeadsNowhere.no_struct_there, NoFurther, NoFurther.no_parameter}
 use Rattle.meaning.specs.Unmeant.{NoFurther.no_parameter_before, NoFurther.not_after, NotAfter, NotAfter.leads_nowhere, NotAfter.not_in, NoPath}
 use Rattle.meaning.specs.Unmeant.{NoPath.no_variable, NoPath.no_variable_before, NoPath.not_after_parameter, NoPath.not_after_local}
@@ -78,12 +79,11 @@ once_among {x = x} met (y ∷ l) m = go (among y met) refl (once_among met l) (o
 
 numbered_among : {x y : Id} {n : ℕ} (ds : List Struct) → Found (λ z. z) x n y (step_names ds) → Absent x (all_steps ds) → ⊥
 unfolding step_names
-numbered_among ds f a = among_absent (once_among [] (all_steps ds) (same_names (found_among f))) a
+numbered_among {x = x} ds f a = among_absent (once_among [] (all_steps ds) (subst (λ l. Among x l) (same_names (once [] (all_steps ds))) (found_among f))) a
   where
-    same_names : {x : Id} {l : List Id} → Among x (map (λ z. z) l) → Among x l
-    same_names {l = []} m = m
-    same_names {l = y ∷ l} (first e) = first e
-    same_names {l = y ∷ l} (other m) = other (same_names m)
+    same_names : (l : List Id) → map (λ z. z) l ≡ l
+    same_names [] = refl
+    same_names (y ∷ l) = ap (λ r. y ∷ r) (same_names l)
 
 -- Expressions ------------------------------------------------------------------------------------
 
@@ -97,6 +97,9 @@ module _ (ds : List Struct) where
 
   nowhere_none : {t : TypeName} {d : Struct} → LeadsNowhere ds t → Refers ds t d → ⊥
   nowhere_none (no_struct_there a) (refers f) = found_there struct_id _ f a
+  nowhere_none int_nowhere r = elim r [ ]
+  nowhere_none nat_nowhere r = elim r [ ]
+  nowhere_none bool_nowhere r = elim r [ ]
 
   mutual
     further_none : {d : Struct} {v : Var} {vs : List ℕ} → NoFurther ds d v → Further ds d v vs → ⊥

@@ -192,6 +192,7 @@ each_length (and_then r e) = ap suc (each_length e)
 found_known : (ds : List Struct) {l : List Struct} {us : List (List Ty)} → Each (ParsMean ds) l us → Known l (map length us)
 found_known ds (and_then (pars_mean n p) e) x k d (here q) = (omega arith, each_length p)
 found_known ds (and_then r e) x k d (later {i = i} n f) = let (h, q) = found_known ds e x i d f in (omega (arith, h), q)
+found_known ds no_more x k d x8 = elim x8 [ ]
 
 map_length : (us : List (List Ty)) → length (map length us) ≡ length us
 map_length [] = refl
