@@ -254,19 +254,19 @@ module _ (p : Program) (m : Machine) (l : ℕ) (s : Sched) (σ : List Inst) (b :
   -- a rule for instance l gives what its command comes to
   pub rule_leads : {st : State} → Rule p (instance l) (state s σ b) st → Leads st (command p l m)
   unfolding flatten
-  rule_leads (ComPush {c = c} g e) = rw e (leads _ g refl (λ i n r ek ec ex eξ h. push_leads p (acting l m) l s σ b R i r c ek ec eξ ex h))
-  rule_leads (ComPushThis {c = c} g e) = rw e (leads _ g refl (λ i n r ek ec ex eξ h. this_leads p (acting l m) l s σ b R i r c ek ec eξ ex h))
-  rule_leads (ComRd {v = v} {c = c} g f y e) = rw e (leads _ g refl (λ i n r ek ec ex eξ h. rd_leads p (acting l m) l s σ b R i r c ek ec eξ v ex f y h))
-  rule_leads (ComWr {v = v} {c = c} g f w u e e') =
-      rw (e, e') (leads _ g refl (λ i n r ek ec ex eξ h. wr_leads p (acting l m) l s σ b R i r c ek ec eξ v ex f w u h))
-  rule_leads (ComWrNSkip {v = v} {c = c} g f a d e) =
-      rw e (leads _ g refl (λ i n r ek ec ex eξ h. skip_leads p (acting l m) l s σ b R i r c ek ec eξ v ex f a d h))
-  rule_leads (ComNot {c = c} g e) = rw e (leads _ g refl (λ i n r ek ec ex eξ h. not_leads p (acting l m) l s σ b R i r c ek ec eξ ex h))
-  rule_leads (ComOp {c = c} g a e) = rw e (leads _ g refl (λ i n r ek ec ex eξ h. op_leads p (acting l m) l s σ b R i r c ek ec eξ ex a h))
-  rule_leads (ComCons {c = c} xs χ g a f t e e') =
-      rw (e, e') (leads _ g refl (λ i n r ek ec ex eξ h. cons_leads p (acting l m) l s σ b R i r c ek ec eξ xs χ (ex ∙ f) a t h))
-  rule_leads (ComIfT {c = c} {d = d} g e) = rw e (leads _ g refl (λ i n r ek ec ex eξ h. branch_leads p (acting l m) l s σ b R i r d c true ek ec ex eξ h))
-  rule_leads (ComIfF {c = c} {d = d} g e) = rw e (leads _ g refl (λ i n r ek ec ex eξ h. branch_leads p (acting l m) l s σ b R i r d c false ek ec ex eξ h))
+  rule_leads (ComPush {k = k} {v = v} {c = c} {χ = χ} {ξ = ξ} g e) = rw e (leads (state s (set σ l (inst k c (v ∷ χ) ξ)) b) g refl (λ i n r ek ec ex eξ h. push_leads p (acting l m) l s σ b R i r c ek ec eξ ex h))
+  rule_leads (ComPushThis {k = k} {c = c} {χ = χ} {ξ = ξ} g e) = rw e (leads (state s (set σ l (inst k c (label l ∷ χ) ξ)) b) g refl (λ i n r ek ec ex eξ h. this_leads p (acting l m) l s σ b R i r c ek ec eξ ex h))
+  rule_leads (ComRd {k = k} {v = v} {c = c} {χ = χ} {ξ = ξ} {x = x} g f y e) = rw e (leads (state s (set σ l (inst k c (x ∷ χ) ξ)) b) g refl (λ i n r ek ec ex eξ h. rd_leads p (acting l m) l s σ b R i r c ek ec eξ v ex f y h))
+  rule_leads (ComWr {m = q} {k = k} {v = v} {c = c} {χ = χ} {ξ = ξ} {η = η} {x = x} {su = su} g f w u e e') =
+      rw (e, e') (leads (state s (update_env (set σ l (inst k c χ ξ)) q (assign η v x)) (meet su b)) g refl (λ i n r ek ec ex eξ h. wr_leads p (acting l m) l s σ b R i r c ek ec eξ v ex f w u h))
+  rule_leads (ComWrNSkip {k = k} {v = v} {c = c} {χ = χ} {ξ = ξ} g f a d e) =
+      rw e (leads (state s (set σ l (inst k c χ ξ)) b) g refl (λ i n r ek ec ex eξ h. skip_leads p (acting l m) l s σ b R i r c ek ec eξ v ex f a d h))
+  rule_leads (ComNot {k = k} {c = c} {χ = χ} {ξ = ξ} {t = t} g e) = rw e (leads (state s (set σ l (inst k c (bool_val (negation t) ∷ χ) ξ)) b) g refl (λ i n r ek ec ex eξ h. not_leads p (acting l m) l s σ b R i r c ek ec eξ ex h))
+  rule_leads (ComOp {k = k} {c = c} {χ = χ} {ξ = ξ} {z = z} g a e) = rw e (leads (state s (set σ l (inst k c (z ∷ χ) ξ)) b) g refl (λ i n r ek ec ex eξ h. op_leads p (acting l m) l s σ b R i r c ek ec eξ ex a h))
+  rule_leads (ComCons {k = k} {j = j} {c = c} {ξ = ξ} xs χ g a f t e e') =
+      rw (e, e') (leads (state s (set σ l (inst k c (label (length σ) ∷ χ) ξ) ++ inst j nil [] (fresh_env xs) ∷ []) (meet false b)) g refl (λ i n r ek ec ex eξ h. cons_leads p (acting l m) l s σ b R i r c ek ec eξ xs χ (ex ∙ f) a t h))
+  rule_leads (ComIfT {k = k} {c = c} {d = d} {χ = χ} {ξ = ξ} g e) = rw e (leads (state s (set σ l (inst k (then d c) χ ξ)) b) g refl (λ i n r ek ec ex eξ h. branch_leads p (acting l m) l s σ b R i r d c true ek ec ex eξ h))
+  rule_leads (ComIfF {k = k} {c = c} {d = d} {χ = χ} {ξ = ξ} g e) = rw e (leads (state s (set σ l (inst k c χ ξ)) b) g refl (λ i n r ek ec ex eξ h. branch_leads p (acting l m) l s σ b R i r d c false ek ec ex eξ h))
 
   -- cons with 256 instances is refused with 34
   pub full_refused : Full l (state s σ b) → command p l m ≡ refused full

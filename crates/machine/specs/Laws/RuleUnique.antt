@@ -75,12 +75,12 @@ module _ (p : Program) where
       let (m, R) = represented st in
       let (y, e, Y) = command_complete p l m R r in
       let (z, f, Z) = command_complete p l m R q in
-      same (cc) Y Z
+      same {m = y} {n = z} (cc) Y Z
   rule_unique schedule {st} r q =
       let (m, R) = represented st in
       let (y, e, Y) = move_complete p m R r in
       let (z, f, Z) = move_complete p m R q in
-      same (cc) Y Z
+      same {m = y} {n = z} (cc) Y Z
 
   -- no rule fits where 34 is due
   pub rule_not_full : {l : ℕ} {st st' : State} → Rule p (instance l) st st' → Full l st → ⊥
