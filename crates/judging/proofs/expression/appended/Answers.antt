@@ -1,0 +1,7 @@
+-- `expression::appended` meets its contract.
+use Rattle.judge.specs.Facts.{appended}
+use Rattle.judging.proofs.expression.appended.Goals as goal
+
+pub returns : goal.returns
+unfolding appended
+returns c = simp (appended, c.worst.ensures, c.higher.ensures, c.demand-own.ensures)

@@ -1,0 +1,7 @@
+-- `statement::followed` meets its contract.
+use Rattle.judge.specs.Facts.{followed}
+use Rattle.judging.proofs.statement.followed.Goals as goal
+
+pub returns : goal.returns
+unfolding followed
+returns c = simp (followed, c.worst.ensures, c.higher.ensures)
