@@ -13,7 +13,7 @@ use Rattle.tokens.specs.Laws.KindLaws.{kind_within}
 use Rattle.text_shape.specs.Roles.{Naming, Naming.new_struct, Naming.new_par, Naming.new_step, Naming.new_local, Naming.first_read, Naming.first_written}
 use Rattle.text_shape.specs.Roles.{Naming.later_variable, Naming.made, Naming.made_statement, Naming.called, Naming.called_struct}
 use Rattle.text_shape.specs.Roles.{Naming.called_step, Typed.of_par}
-use Rattle.text_shape.specs.Roles.{Typed.of_local, Typed.of_null, Role, Role.plain, Role.naming, Role.typed, Role.part, naming_code, typed_code, type_number}
+use Rattle.text_shape.specs.Roles.{Typed.of_local, Typed.of_null, Role, Role.plain, Role.naming, Role.typed, Role.part, naming_code, typed_code, type_number, naming_number}
 use Rattle.text_shape.specs.Roles.{part_code, code, token_of}
 use Rattle.resolve.specs.Named.{name_of, names_at}
 use Rattle.resolve.specs.Tables.{places_from, with_one, offsets_from}
@@ -54,22 +54,19 @@ one_byte q b = go (eqb b q) refl (leb q b) refl
 -- Names ------------------------------------------------------------------------------------------
 
 pub naming_near : (m : Naming) → (nat_kind < naming_code m) × (naming_code m < first_type_role)
-unfolding naming_code
-naming_near m =
-    elim m [
-      | new_struct ↦ omega arith
-      | new_par ↦ omega arith
-      | new_step ↦ omega arith
-      | new_local ↦ omega arith
-      | first_read ↦ omega arith
-      | first_written ↦ omega arith
-      | later_variable ↦ omega arith
-      | made ↦ omega arith
-      | made_statement ↦ omega arith
-      | called ↦ omega arith
-      | called_struct ↦ omega arith
-      | called_step ↦ omega arith
-    ]
+unfolding naming_code naming_number
+naming_near new_struct = omega arith
+naming_near new_par = omega arith
+naming_near new_step = omega arith
+naming_near new_local = omega arith
+naming_near first_read = omega arith
+naming_near first_written = omega arith
+naming_near later_variable = omega arith
+naming_near made = omega arith
+naming_near made_statement = omega arith
+naming_near called = omega arith
+naming_near called_struct = omega arith
+naming_near called_step = omega arith
 
 module _ (x : List ℕ) (q : ℕ) (low : nat_kind < q) (high : q < first_type_role) where
   other_byte : (i c : ℕ) (cs : List ℕ) → (c ≡ q → ⊥) → names_at x (places_from q q i (c ∷ cs)) ≡ names_at x (places_from q q (suc i) cs)
