@@ -64,11 +64,11 @@ module _ (p : Program) where
   -- and the other way
   step_complete : {c c' : Config} {a : Option ℕ} (m : Machine) → StandsFor m c → Step p c a c'
       → (m' : Machine) × (Acts p m a m') × (StandsFor m' c')
-  step_complete m (q, R) (moves {st = st} d k) =
-      let (m', e, Q) = move_complete p m R k in (m', acts_move ((due_same m st R).1 d) e, (move_from p m e ∙ q, Q))
-  step_complete m (q, R) (takes {n = n} {e = e} {st = st} d c) =
-      let (m', h, Q) = command_complete p (picked n e st) m R c in
-      (m', acts_take ((none_due m st R).1 d) (picked_command m n st e (q, R) ∙ h), (command_from p (picked n e st) m h, Q))
+  step_complete m S (moves {st = st} d k) =
+      let (m', e, Q) = move_complete p m S.1 k in (m', acts_move ((due_same m st S.1).1 d) e, (move_from p m e ∙ S.0, Q))
+  step_complete m S (takes {n = n} {e = e} {st = st} d c) =
+      let (m', h, Q) = command_complete p (picked n e st) m S.1 c in
+      (m', acts_take ((none_due m st S.1).1 d) (picked_command m n st e S ∙ h), (command_from p (picked n e st) m h, Q))
 
   -- so is a way of several
   pub steps_follow : {m z : Machine} {es fs : List ℕ} {t : ℕ} (c : Config) → StandsFor m c → Steps (Acts p) m es t z fs
@@ -101,12 +101,12 @@ module _ (p : Program) where
 
   -- and the other way
   halts_rests : (m : Machine) {c : Config} {es : List ℕ} {k : ℕ} → StandsFor m c → Halts c es k → Rests p m es k
-  halts_rests m (q, R) (at_end {σ = σ} {b = b} d) = ends ((due_same m (state done σ b) R).1 d) R.0
-  halts_rests m (q, R) (at_33 {st = st} d) = lasts ((none_due m st R).1 d)
-  halts_rests m (q, R) (at_34 {n = n} {e = e} {st = st} d f) =
-      fails {n = full} ((none_due m st R).1 d) (picked_command m n st e (q, R) ∙ (command_full p (picked n e st) m st R).1 f)
-  halts_rests m (q, R) (at_35 {n = n} {e = e} {st = st} d f) =
-      fails {n = exceeded} ((none_due m st R).1 d) (picked_command m n st e (q, R) ∙ (command_exceeded p (picked n e st) m st R).1 f)
+  halts_rests m S (at_end {σ = σ} {b = b} d) = ends ((due_same m (state done σ b) S.1).1 d) S.1.0
+  halts_rests m S (at_33 {st = st} d) = lasts ((none_due m st S.1).1 d)
+  halts_rests m S (at_34 {n = n} {e = e} {st = st} d f) =
+      fails {n = full} ((none_due m st S.1).1 d) (picked_command m n st e S ∙ (command_full p (picked n e st) m st S.1).1 f)
+  halts_rests m S (at_35 {n = n} {e = e} {st = st} d f) =
+      fails {n = exceeded} ((none_due m st S.1).1 d) (picked_command m n st e S ∙ (command_exceeded p (picked n e st) m st S.1).1 f)
 
   -- The whole run --------------------------------------------------------------------
 
