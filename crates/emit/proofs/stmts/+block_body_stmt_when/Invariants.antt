@@ -1,0 +1,23 @@
+use Rattle.std.proofs.Common.{length, ◌<◌, ◌+◌, ◌*◌, ◌∙◌}
+use Rattle.emit.specs.Written.{body_words, stmts_at as stmts-from}
+use Rattle.emit.specs.Parts.{Rest}
+use Rattle.emit.proofs.stmts.+block_body_stmt_when.Given as goal
+
+abbrev pub decreases-block : goal.decreases-block
+decreases-block l = 4 * l.depth + 2
+
+abbrev pub decreases-body : goal.decreases-body
+decreases-body l = 4 * l.depth + 1
+
+abbrev pub decreases-stmt : goal.decreases-stmt
+decreases-stmt l = 4 * l.depth
+
+abbrev pub decreases-when : goal.decreases-when
+decreases-when l = 4 * l.depth + 3
+
+abbrev pub invariant-body-loop-left : goal.invariant-body-loop-left
+invariant-body-loop-left l =
+    Rest body_words (stmts-from l.ar l.s l.depth l.initial.left (l.at + 1)) l.initial.out l.k (stmts-from l.ar l.s l.depth l.left l.p.next) l.p l.out
+
+abbrev pub decreases-body-loop-left : goal.decreases-body-loop-left
+decreases-body-loop-left l = l.left
