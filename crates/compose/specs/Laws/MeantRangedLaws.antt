@@ -75,6 +75,7 @@ arity : {ds l : List Struct} {us : List (List Ty)} {x : Id} {k : ℕ} {d : Struc
     → get_or (map length us) k 0 ≡ length (pars_of d)
 arity (and_then (pars_mean n q) r) (here e) = each_long q
 arity (and_then m r) (later n f) = arity r f
+arity {ds = ds} {k = k} {d = d} no_more x8 = elim x8 [ ]
 
 -- Expressions and statements ------------------------------------------------------------------------------
 
