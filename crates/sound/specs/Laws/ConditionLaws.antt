@@ -22,8 +22,8 @@ condition_halts m c S es n = (
 )
 
 -- at most one condition holds
-pub condition_one : Program → {m : Machine} {es : List ℕ} {n k : ℕ} → Condition m es n → Condition m es k → n ≡ k
-condition_one p {m} {es} {n} {k} (a, S, h) c = halts_one p h ((condition_halts m a S es k).0 c)
+pub condition_one : Program → (m : Machine) {es : List ℕ} {n k : ℕ} → Condition m es n → Condition m es k → n ≡ k
+condition_one p m {es} {n} {k} (a, S, h) c = halts_one p h ((condition_halts m a S es k).0 c)
 
 -- no machine is visited after one at which a condition holds
 pub condition_last : {p : Program} {m z : Machine} {es fs : List ℕ} {n : ℕ} → Condition m es n → Visits p m es z fs → (z ≡ m) × (fs ≡ es)

@@ -100,7 +100,7 @@ module _ {p : Program} {m z : Machine} {es gs : List ℕ} {n : ℕ} (at : Visits
 
   only_last : (w : Machine) (fs : List ℕ) → Visits p m es w fs → (k : ℕ) → Condition w fs k ↔ ((w ≡ z) × (fs ≡ gs) × (k ≡ n))
   only_last w fs v k = (
-    λ d. let (a, b) = condition_last d (leads_last w fs v) in (sym a, sym b, condition_one p (rw (← a, ← b) at d) c),
+    λ d. let (a, b) = condition_last d (leads_last w fs v) in (sym a, sym b, condition_one p _ (rw (← a, ← b) at d) c),
     λ (a, b, q). rw (a, b, q) c,
   )
 

@@ -118,7 +118,7 @@ module _ {S : ℕ} where
   sized_drop (suc n) (more h s) = sized_drop n s
 
   -- so are those that a way leads to
-  pub way_sized : {G : Ctx} {c₀ c : List Note} {x₀ x : Tags} → SizedAll S c₀ → Way G c₀ x₀ c x → SizedAll S c
+  pub way_sized : {G : Ctx} {c₀ : List Note} {x₀ : Tags} {c : List Note} {x : Tags} → SizedAll S c₀ → Way G c₀ x₀ c x → SizedAll S c
   way_sized a start = a
   way_sized a (on w) = sized_others (way_sized a w)
   way_sized a (over {n = n} w) = sized_drop (jump n) (sized_others (way_sized a w))

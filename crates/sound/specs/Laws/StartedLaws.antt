@@ -13,7 +13,7 @@ use Rattle.sound.specs.Invariant.{Job, Job.call, InJob, InJob.in_call, Passage, 
 use Rattle.sound.specs.Laws.ElemLaws.{none_some, some_is}
 
 -- a way leads to a rest of its commands
-way_rest : {G : Ctx} {c₀ c : List Note} {x₀ x : Tags} → Way G c₀ x₀ c x → (n : ℕ) × (c ≡ drop n c₀)
+way_rest : {G : Ctx} {c₀ : List Note} {x₀ : Tags} {c : List Note} {x : Tags} → Way G c₀ x₀ c x → (n : ℕ) × (c ≡ drop n c₀)
 way_rest start = (0, refl)
 way_rest {c₀ = c₀} (on w) =
     let (k, e) = way_rest w in (k + 1, ap (drop 1) e ∙ drop-drop 1 k c₀)
