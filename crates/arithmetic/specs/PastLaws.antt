@@ -1,7 +1,7 @@
 -- The bytes of operators behind the comparisons (01, 'Program').
 use Rattle.std.specs.Prelude.{ℕ, ◌<◌, ◌≡◌}
 use Rattle.std.proofs.Common.{arith}
-use Rattle.operators.specs.Laws.WordLaws.{past_numbers}
+use Rattle.operators.proofs.Laws.WordLaws.{past_numbers}
 
 -- Above 37 and none of the next five, a byte is above 42.
 pub past_computing : {o : ℕ} → 37 < o → (o ≡ 38 → ⊥) → (o ≡ 39 → ⊥) → (o ≡ 40 → ⊥) → (o ≡ 41 → ⊥) → (o ≡ 42 → ⊥) → 42 < o

@@ -1,9 +1,10 @@
 // Reads cases on standard input and answers each by a line (docs/CASES.md). A malformed case ends the program, with a line on standard error.
 #![tactic(auto)]
+
 ghost use Rattle.std.specs.Prelude.{◌≤◌, length};
 ghost use Rattle.audala_cases.specs.Within.{Within};
 
-use libc::STDIN_FILENO;
+use std::io::Read;
 use text::lines;
 
 // A number that was read and is within its bound.
@@ -21,8 +22,9 @@ enum Outcome {
     Over,
 }
 
-fn help() {
+fn help(rt: &HostRuntime) {
     files::tell(
+        rt,
         b"audala_cases < CASES\n\
         \n\
         Reads cases, each a call of the engine with all that it is given, and answers\n\
@@ -33,19 +35,19 @@ fn help() {
 }
 
 // Fills the front of a buffer with n bytes; whether there are so many.
-fn fetch(buffer: &mut [u8], n: usize) -> bool {
+fn fetch(rt: &HostRuntime, buffer: &mut [u8], n: usize) -> bool {
     if buffer.len() < n {
         return false;
     }
-    io::read_full(STDIN_FILENO, &mut buffer[..n]) == n
+    rt.stdin().read_exact(&mut buffer[..n]).is_ok()
 }
 
 // A number of four bytes, at most so large.
-fn number(most: usize) -> Size
+fn number(rt: &HostRuntime, most: usize) -> Size
     ensures { Within most result }
 {
     let mut b = [0u8; 4];
-    if !fetch(&mut b, 4) {
+    if !fetch(rt, &mut b, 4) {
         return Size::Nothing;
     }
     let n = cases::number(&b) as usize;
@@ -56,22 +58,22 @@ fn number(most: usize) -> Size
 }
 
 // A length and so many bytes, into the front of a buffer.
-fn part(buffer: &mut [u8]) -> Size
+fn part(rt: &HostRuntime, buffer: &mut [u8]) -> Size
     ensures { Within (length buffer.new) result }
 {
     let most = buffer.len();
-    let read = number(most);
+    let read = number(rt, most);
     let Size::Of(n) = read else {
         return Size::Nothing;
     };
-    if !fetch(buffer, n) {
+    if !fetch(rt, buffer, n) {
         return Size::Nothing;
     }
     Size::Of(n)
 }
 
 // Whether the answer was written.
-fn answer(image: &[u8], list: &mut [u64]) -> bool {
+fn answer(rt: &HostRuntime, image: &[u8], list: &mut [u64]) -> bool {
     let v = checker::check(image, list);
     let ns = [
         v.number as u64,
@@ -83,7 +85,7 @@ fn answer(image: &[u8], list: &mut [u64]) -> bool {
     ];
     let mut text = [0u8; 256];
     let n = lines::row(&mut text, 0, b"check", &ns);
-    files::output(&text[..n])
+    files::output(rt, &text[..n])
 }
 
 // What came of a case whose answer was written or not.
@@ -96,19 +98,20 @@ fn answered(written: bool) -> Outcome {
 }
 
 // What stands behind the number of list places in a case of kind 1.
-fn check_case(places: usize) -> Outcome
+fn check_case(rt: &HostRuntime, places: usize) -> Outcome
     requires { places ≤ 1100 }
 {
     let mut image = [0u8; 33792];
-    let Size::Of(n) = part(&mut image) else {
+    let Size::Of(n) = part(rt, &mut image) else {
         return Outcome::Malformed;
     };
     let mut list = [11936128518282651045u64; 1100];
-    answered(answer(&image[..n], &mut list[..places]))
+    answered(answer(rt, &image[..n], &mut list[..places]))
 }
 
 // What a run answers, as a line; whether it was written.
 fn answer_run(
+    rt: &HostRuntime,
     image: &[u8],
     table: &[u8],
     turns: &[u8],
@@ -127,28 +130,29 @@ fn answer_run(
     ];
     let mut text = [0u8; 256];
     let n = lines::row(&mut text, 0, b"run", &ns);
-    files::output(&text[..n])
+    files::output(rt, &text[..n])
 }
 
 // The images and turns of a case of kind 2, with so many list places and output bytes.
-fn run_parts(places: usize, room: usize) -> Outcome
+fn run_parts(rt: &HostRuntime, places: usize, room: usize) -> Outcome
     requires { (places ≤ 1100) × (room ≤ 9216) }
 {
     let mut image = [0u8; 33792];
-    let Size::Of(n) = part(&mut image) else {
+    let Size::Of(n) = part(rt, &mut image) else {
         return Outcome::Malformed;
     };
     let mut table = [0u8; 9728];
-    let Size::Of(m) = part(&mut table) else {
+    let Size::Of(m) = part(rt, &mut table) else {
         return Outcome::Malformed;
     };
     let mut turns = [0u8; 65600];
-    let Size::Of(t) = part(&mut turns) else {
+    let Size::Of(t) = part(rt, &mut turns) else {
         return Outcome::Malformed;
     };
     let mut output = [165u8; 9216];
     let mut list = [11936128518282651045u64; 1100];
     answered(answer_run(
+        rt,
         &image[..n],
         &table[..m],
         &turns[..t],
@@ -158,78 +162,78 @@ fn run_parts(places: usize, room: usize) -> Outcome
 }
 
 // What stands behind the number of list places in a case of kind 2.
-fn run_case(places: usize) -> Outcome
+fn run_case(rt: &HostRuntime, places: usize) -> Outcome
     requires { places ≤ 1100 }
 {
-    let Size::Of(room) = number(9216) else {
+    let Size::Of(room) = number(rt, 9216) else {
         return Outcome::Malformed;
     };
-    run_parts(places, room)
+    run_parts(rt, places, room)
 }
 
 // What reading a text answers, as a line; whether it was written.
-fn answer_text(text: &[u8], output: &mut [u8]) -> bool {
+fn answer_text(rt: &HostRuntime, text: &[u8], output: &mut [u8]) -> bool {
     let r = read_text::read(text, output);
     let ns = [r.number as u64, r.blocks as u64, cases::bytes(output)];
     let mut line = [0u8; 256];
     let n = lines::row(&mut line, 0, b"text", &ns);
-    files::output(&line[..n])
+    files::output(rt, &line[..n])
 }
 
 // What stands behind the kind in a case of kind 3.
-fn text_case() -> Outcome {
-    let Size::Of(room) = number(33792) else {
+fn text_case(rt: &HostRuntime) -> Outcome {
+    let Size::Of(room) = number(rt, 33792) else {
         return Outcome::Malformed;
     };
     let mut text = [0u8; 66000];
-    let Size::Of(n) = part(&mut text) else {
+    let Size::Of(n) = part(rt, &mut text) else {
         return Outcome::Malformed;
     };
     let mut output = [165u8; 33792];
-    answered(answer_text(&text[..n], &mut output[..room]))
+    answered(answer_text(rt, &text[..n], &mut output[..room]))
 }
 
 // The next case.
-fn next() -> Outcome {
+fn next(rt: &HostRuntime) -> Outcome {
     let mut kind = [0u8; 1];
-    if !fetch(&mut kind, 1) {
+    if !fetch(rt, &mut kind, 1) {
         return Outcome::Over;
     }
     if kind[0] == 3 {
-        return text_case();
+        return text_case(rt);
     }
-    let Size::Of(places) = number(1100) else {
+    let Size::Of(places) = number(rt, 1100) else {
         return Outcome::Malformed;
     };
     if kind[0] == 1 {
-        return check_case(places);
+        return check_case(rt, places);
     }
     if kind[0] == 2 {
-        return run_case(places);
+        return run_case(rt, places);
     }
     Outcome::Malformed
 }
 
 // Why case n was the last.
-fn stopped(why: Outcome, n: u64) {
+fn stopped(rt: &HostRuntime, why: Outcome, n: u64) {
     if let Outcome::Malformed = why {
-        files::tell(b"audala_cases: case ");
-        files::tell_number(n);
-        files::tell(b" is cut short or is none\n");
+        files::tell(rt, b"audala_cases: case ");
+        files::tell_number(rt, n);
+        files::tell(rt, b" is cut short or is none\n");
     }
 }
 
-fn main() {
-    if os::arg_count() != 1 {
-        help();
+fn main(rt: HostRuntime) {
+    if files::arg_count(&rt) != 1 {
+        help(&rt);
         return;
     }
     let mut n: u64 = 0;
     while n < 4294967296 {
         n += 1;
-        let r = next();
+        let r = next(&rt);
         let Outcome::Answered = r else {
-            stopped(r, n);
+            stopped(&rt, r, n);
             return;
         };
     }

@@ -1,12 +1,14 @@
 // Reads a program image on standard input and prints its listing, or `refused n` (01, 'Bench rows').
 #![tactic(auto)]
+
 use listing::image;
 
-fn main() {
+fn main(rt: HostRuntime) {
     // One byte more than an image may have, so that a longer one is told from the longest.
     let mut input = [0u8; 32769];
     let mut text = [0u8; 131072];
     let r = files::input(
+        &rt,
         b"audala_list < IMAGE\n\
         \n\
         Reads a program image and prints its listing: a head with the counts of\n\
@@ -21,5 +23,5 @@ fn main() {
     }
     let n = r.len;
     let k = image::listing(&input[..n], &mut text);
-    files::output(&text[..k]);
+    files::output(&rt, &text[..k]);
 }

@@ -1,5 +1,6 @@
 // A table image as text, and text as a table image (docs/FORMAT.md, 'Tables as text'). Program, table and text are in files that arguments name.
 #![tactic(auto)]
+
 use blocks::{Read, Written};
 use directory::rows::ROWS;
 use load::Load;
@@ -23,8 +24,9 @@ const WORDS: usize = 2560;
 
 const TEXT: usize = 65536;
 
-fn help() {
+fn help(rt: &HostRuntime) {
     files::tell(
+        rt,
         b"audala_table PROGRAM TABLE\n\
         audala_table PROGRAM TEXT OUTPUT\n\
         \n\
@@ -38,20 +40,20 @@ fn help() {
 }
 
 // A line on standard error: a text, a number, a line end.
-fn refuse(text: &[u8], n: usize) {
-    files::tell(text);
-    files::tell_number(n as u64);
-    files::tell(b"\n");
+fn refuse(rt: &HostRuntime, text: &[u8], n: usize) {
+    files::tell(rt, text);
+    files::tell_number(rt, n as u64);
+    files::tell(rt, b"\n");
 }
 
 // The number of a refusal on standard error: nothing is accepted with it.
-fn told(n: u8) -> bool {
-    refuse(b"audala_table: refused ", n as usize);
+fn told(rt: &HostRuntime, n: u8) -> bool {
+    refuse(rt, b"audala_table: refused ", n as usize);
     false
 }
 
 // Whether a program is accepted and its table too (1 to 12); where one is not, the number is told. Nothing is run.
-fn accepted(program: &[u8], table: &[u8]) -> bool {
+fn accepted(rt: &HostRuntime, program: &[u8], table: &[u8]) -> bool {
     let mut stream = [0u8; seating::SHORT];
     let mut counts = [0u8; types::MAX_STRUCTS];
     let mut types = [0u8; types::MAX_STRUCTS * types::MAX_PARAMS];
@@ -61,7 +63,7 @@ fn accepted(program: &[u8], table: &[u8]) -> bool {
     let mut cells = [0u64; layout::CELLS];
     let loaded = seating::admit(program, &mut stream, &mut counts, &mut types, &mut rows);
     let Load::Program(p) = loaded else {
-        return told(load::refusal(loaded));
+        return told(rt, load::refusal(loaded));
     };
     let k = p.structs as usize;
     let end = types::MAX_PARAMS * k;
@@ -69,7 +71,7 @@ fn accepted(program: &[u8], table: &[u8]) -> bool {
     let ts = &types[..end];
     let seated = seating::seat_table(p.at, cs, ts, table, &mut buffer, &mut heads, &mut cells);
     let SeatRead::Taken(_) = seated else {
-        return told(seating::refusal(seated));
+        return told(rt, seating::refusal(seated));
     };
     true
 }
@@ -95,7 +97,7 @@ fn structs(program: &[u8], counts: &mut [u8; 16], types: &mut [u8; 128]) -> u8 {
 }
 
 // The first n words as lines.
-fn print(words: &[u64], n: usize) {
+fn print(rt: &HostRuntime, words: &[u64], n: usize) {
     if words.len() < n {
         return;
     }
@@ -104,7 +106,7 @@ fn print(words: &[u64], n: usize) {
     }
     let mut text = [0u8; TEXT];
     let k = number_lines::print(&words[..n], &mut text);
-    files::output(&text[..k]);
+    files::output(rt, &text[..k]);
 }
 
 // The words of a table's stream.
@@ -113,17 +115,17 @@ fn words_of(counts: &[u8; 16], types: &[u8; 128], k: u8, s: &[u8], out: &mut [u6
 }
 
 // The table whose stream is the first n bytes, as lines.
-fn lines(counts: &[u8; 16], types: &[u8; 128], k: u8, s: &[u8], n: usize) {
+fn lines(rt: &HostRuntime, counts: &[u8; 16], types: &[u8; 128], k: u8, s: &[u8], n: usize) {
     if s.len() < n {
         return;
     }
     let mut words = [0u64; WORDS];
     let m = words_of(counts, types, k, &s[..n], &mut words);
-    print(&words, m);
+    print(rt, &words, m);
 }
 
-fn show(program: &[u8], table: &[u8]) {
-    if !accepted(program, table) {
+fn show(rt: &HostRuntime, program: &[u8], table: &[u8]) {
+    if !accepted(rt, program, table) {
         return;
     }
     let mut counts = [0u8; 16];
@@ -131,56 +133,65 @@ fn show(program: &[u8], table: &[u8]) {
     let k = structs(program, &mut counts, &mut types);
     let mut s = [0u8; STREAM];
     match blocks::read_image(table, types::TABLE_BLOCKS, &mut s) {
-        Read::Stream(n) => lines(&counts, &types, k, &s, n),
+        Read::Stream(n) => lines(rt, &counts, &types, k, &s, n),
         Read::Refused(_) => {}
         Read::Short => {}
     }
 }
 
 // The first n blocks to the file that argument 3 names, where they are accepted.
-fn store(program: &[u8], image: &[u8], n: usize) {
+fn store(rt: &HostRuntime, program: &[u8], image: &[u8], n: usize) {
     if n <= types::TABLE_BLOCKS {
         let bytes = 512 * n as u32;
         let m = io::count(bytes as isize, image);
-        if accepted(program, &image[..m]) {
-            files::store(3, &image[..m]);
+        if accepted(rt, program, &image[..m]) {
+            files::store(rt, 3, &image[..m]);
         }
     }
 }
 
 // The image of the stream that is the first n bytes.
-fn image(program: &[u8], s: &[u8], n: usize) {
+fn image(rt: &HostRuntime, program: &[u8], s: &[u8], n: usize) {
     if s.len() < n {
         return;
     }
     let mut image = [0u8; OUTPUT];
     match blocks::write_image(&s[..n], types::TABLE_BLOCKS, &mut image) {
-        Written::Blocks(k) => store(program, &image, k),
-        Written::Length => files::tell(b"audala_table: the table is too long\n"),
-        Written::Short => files::tell(b"audala_table: the table is too long\n"),
+        Written::Blocks(k) => store(rt, program, &image, k),
+        Written::Length => files::tell(rt, b"audala_table: the table is too long\n"),
+        Written::Short => files::tell(rt, b"audala_table: the table is too long\n"),
     }
 }
 
 // The stream of n bytes that was made of words, where the words are those that it has as a table.
-fn judge(program: &[u8], words: &[u64], s: &[u8], n: usize, back: &[u64], m: usize) {
+fn judge(
+    rt: &HostRuntime,
+    program: &[u8],
+    words: &[u64],
+    s: &[u8],
+    n: usize,
+    back: &[u64],
+    m: usize,
+) {
     if back.len() < m {
-        files::tell(b"audala_table: the table is too long\n");
+        files::tell(rt, b"audala_table: the table is too long\n");
         return;
     }
     match table_stream::judge(s.len(), n, words, &back[..m]) {
-        Made::Stream(k) => image(program, s, k),
+        Made::Stream(k) => image(rt, program, s, k),
         Made::NoRecord(i) => refuse(
+            rt,
             b"audala_table: no record has what stands behind this many numbers of the text: ",
             i,
         ),
-        Made::Short => files::tell(b"audala_table: the table is too long\n"),
+        Made::Short => files::tell(rt, b"audala_table: the table is too long\n"),
     }
 }
 
 // The words that the first n bytes have as a table, and the judgement.
-fn back(program: &[u8], words: &[u64], s: &[u8], n: usize) {
+fn back(rt: &HostRuntime, program: &[u8], words: &[u64], s: &[u8], n: usize) {
     if s.len() < n {
-        files::tell(b"audala_table: the table is too long\n");
+        files::tell(rt, b"audala_table: the table is too long\n");
         return;
     }
     let mut counts = [0u8; 16];
@@ -188,10 +199,10 @@ fn back(program: &[u8], words: &[u64], s: &[u8], n: usize) {
     let k = structs(program, &mut counts, &mut types);
     let mut back = [0u64; BACK];
     let m = words_of(&counts, &types, k, &s[..n], &mut back);
-    judge(program, words, s, n, &back, m);
+    judge(rt, program, words, s, n, &back, m);
 }
 
-fn of_words(program: &[u8], words: &[u64], n: usize) {
+fn of_words(rt: &HostRuntime, program: &[u8], words: &[u64], n: usize) {
     if words.len() < n {
         return;
     }
@@ -200,61 +211,63 @@ fn of_words(program: &[u8], words: &[u64], n: usize) {
     }
     let mut s = [0u8; STREAM];
     let m = table_stream::stream(&words[..n], &mut s);
-    back(program, &words[..n], &s, m);
+    back(rt, program, &words[..n], &s, m);
 }
 
-fn make(program: &[u8], text: &[u8]) {
+fn make(rt: &HostRuntime, program: &[u8], text: &[u8]) {
     let mut list = [0u64; types::MAX_COMMANDS];
     let v = checker::check(program, &mut list);
     let n = v.number;
     if n != 0 {
-        refuse(b"audala_table: refused ", n as usize);
+        refuse(rt, b"audala_table: refused ", n as usize);
         return;
     }
     let mut words = [0u64; WORDS];
     match numbers::scan(text, &mut words) {
-        Scanned::Numbers(n) => of_words(program, &words, n),
+        Scanned::Numbers(n) => of_words(rt, program, &words, n),
         Scanned::Strange(i) => refuse(
+            rt,
             b"audala_table: no number has this byte of the text, counted from 0: ",
             i,
         ),
         Scanned::Large(i) => refuse(
+            rt,
             b"audala_table: a number over 4294967295 at this byte of the text: ",
             i,
         ),
-        Scanned::Long => files::tell(b"audala_table: more numbers than 256 records have\n"),
+        Scanned::Long => files::tell(rt, b"audala_table: more numbers than 256 records have\n"),
     }
 }
 
-fn main() {
-    let n = os::arg_count();
+fn main(rt: HostRuntime) {
+    let n = files::arg_count(&rt);
     if n < 3 {
-        help();
+        help(&rt);
         return;
     }
     if n > 4 {
-        help();
+        help(&rt);
         return;
     }
     let mut program = [0u8; PROGRAM];
     let mut other = [0u8; TEXT];
-    let p = files::load(1, &mut program);
+    let p = files::load(&rt, 1, &mut program);
     if !p.done {
         return;
     }
-    let t = files::load(2, &mut other);
+    let t = files::load(&rt, 2, &mut other);
     if !t.done {
         return;
     }
     let m = p.len;
     let k = t.len;
     if n == 3 {
-        show(&program[..m], &other[..k]);
+        show(&rt, &program[..m], &other[..k]);
         return;
     }
     if k >= TEXT {
-        files::tell(b"audala_table: the text has more than 65535 bytes\n");
+        files::tell(&rt, b"audala_table: the text has more than 65535 bytes\n");
         return;
     }
-    make(&program[..m], &other[..k]);
+    make(&rt, &program[..m], &other[..k]);
 }

@@ -12,11 +12,11 @@ const IMAGE: usize = types::PROGRAM_BLOCKS * blocks::BLOCK_SIZE;
 const LINE_END: u8 = 10;
 
 // The first n blocks of the image, of which there are at most 64.
-fn put(image: &[u8], n: u32) {
+fn put(rt: &HostRuntime, image: &[u8], n: u32) {
     if n <= 64 {
         let bytes = 512 * n;
         let m = io::count(bytes as isize, image);
-        files::output(&image[..m]);
+        files::output(rt, &image[..m]);
     }
 }
 
@@ -64,40 +64,41 @@ fn behind(front: &[u8]) -> Spot {
 }
 
 // The place at which reading a text stopped.
-fn tell_place(text: &[u8]) {
+fn tell_place(rt: &HostRuntime, text: &[u8]) {
     let at = text_place::place(text);
     let s = behind(&text[..at]);
-    files::tell(b", line ");
-    files::tell_number(s.line);
-    files::tell(b", column ");
-    files::tell_number(s.column);
+    files::tell(rt, b", line ");
+    files::tell_number(rt, s.line);
+    files::tell(rt, b", column ");
+    files::tell_number(rt, s.column);
 }
 
 // Why there is no image: of 15, 16 and 17 with the place.
-fn refuse(text: &[u8], n: u32) {
-    files::tell(b"refused ");
-    files::tell_number(n as u64);
+fn refuse(rt: &HostRuntime, text: &[u8], n: u32) {
+    files::tell(rt, b"refused ");
+    files::tell_number(rt, n as u64);
     // the least number that has a place
     if types::number::NO_TOKEN as u32 <= n {
-        tell_place(text);
+        tell_place(rt, text);
     }
-    files::tell(b"\n");
+    files::tell(rt, b"\n");
 }
 
 // The image of a text, or why there is none.
-fn answer(text: &[u8]) {
+fn answer(rt: &HostRuntime, text: &[u8]) {
     let mut image = [0u8; IMAGE];
     let r = read_text::read(text, &mut image);
     if r.number == 0 {
-        put(&image, r.blocks);
+        put(rt, &image, r.blocks);
         return;
     }
-    refuse(text, r.number);
+    refuse(rt, text, r.number);
 }
 
-fn main() {
+fn main(rt: HostRuntime) {
     let mut text = [0u8; TEXT];
     let r = files::input(
+        &rt,
         b"audala_text < TEXT > IMAGE\n\
         \n\
         Reads a program as text and writes its image: blocks of 512 bytes. A text\n\
@@ -113,5 +114,5 @@ fn main() {
         return;
     }
     let n = r.len;
-    answer(&text[..n]);
+    answer(&rt, &text[..n]);
 }

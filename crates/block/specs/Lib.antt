@@ -3,4 +3,3 @@ pub mod Sums
 pub mod Block
 pub mod BlockFaults
 pub mod BlockBytes
-pub mod Laws

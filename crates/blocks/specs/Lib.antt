@@ -1,11 +1,3 @@
 pub mod Images
 pub mod Faults
-pub mod FaultLaws
-pub mod ImageLaws
-pub mod ImageBytes
-pub mod ImageRoundTrip
-pub mod ImageWays
 pub mod Answers
-pub mod WriteWays
-pub mod AnswerLaws
-pub mod OpeningLaws

@@ -8,12 +8,12 @@ use Rattle.types.specs.Stages.{Stage.went as accepted, Stage.stopped as refused,
 use Rattle.program.specs.Tree.{Program}
 use Rattle.commands.specs.Bounds.{Within}
 use Rattle.commands.specs.ProgramWords.{structs_words}
-use Rattle.commands.specs.Laws.NumbersLaws.{number_accepted}
+use Rattle.commands.proofs.Laws.NumbersLaws.{number_accepted}
 use Rattle.emit.specs.Written.{Ready, structs_at}
 use Rattle.emit_steps.specs.Emitted.{EmittedProgram}
 use Rattle.emit_steps.specs.ProgramLaws.{program_ready}
 use Rattle.verdict.specs.Verdict.{Checked, checked, listed, Verdict as Judgement, refusal, approval, checks, verdict_of, list_of, check_verdict, check_list}
-use Rattle.verdict.specs.VerdictLaws.{checks_room}
+use Rattle.verdict.proofs.VerdictLaws.{checks_room}
 use Rattle.load.specs.declared.Loaded.{Loaded}
 use Rattle.load.specs.Load.{Admitted}
 use Rattle.load.specs.LoadLaws.{LoadedAs, accepted_source}

@@ -23,20 +23,20 @@ use Rattle.run.specs.Runs.{Config, Config.config, StandsFor, Passes}
 use Rattle.run.specs.Begin.{params_in, begin, table_of}
 use Rattle.run.specs.Comes.{Comes}
 use Rattle.run.specs.Input.{TableAccepted}
-use Rattle.run.specs.Laws.RunAgreesVisits.{visits_passes, passes_visits}
-use Rattle.run.specs.Laws.OutcomeLaws.{outcome_exact, comes_unique, comes_holding, comes_stopped, jammed_exact}
+use Rattle.run.proofs.Laws.RunAgreesVisits.{visits_passes, passes_visits}
+use Rattle.run.proofs.Laws.OutcomeLaws.{outcome_exact, comes_unique, comes_holding, comes_stopped, jammed_exact}
 use Rattle.sound.specs.Needs.{Right}
 use Rattle.sound.specs.NeverStuck.{NeverStuck}
 use Rattle.sound.specs.Startable.{Startable}
 use Rattle.sound.specs.Started.{OneStep}
 use Rattle.sound.specs.Waiting.{ActsWithin, StopsBefore}
-use Rattle.sound.specs.Laws.AcceptedLaws.{accepted_firm}
-use Rattle.sound.specs.Laws.GoodStands.{good_stands}
-use Rattle.sound.specs.Laws.NeverStuckLaws.{never_stuck, never_stuck_comes}
-use Rattle.sound.specs.Laws.StartableLaws.{begin_startable, visits_startable}
-use Rattle.sound.specs.Laws.StartedLaws.{good_one_step}
-use Rattle.sound.specs.Laws.TableKept.{table_kept, table_written, nulls_kept, comes_written}
-use Rattle.sound.specs.Laws.WaitLaws.{holder_waits}
+use Rattle.sound.proofs.Laws.AcceptedLaws.{accepted_firm}
+use Rattle.sound.proofs.Laws.GoodStands.{good_stands}
+use Rattle.sound.proofs.Laws.NeverStuckLaws.{never_stuck, never_stuck_comes}
+use Rattle.sound.proofs.Laws.StartableLaws.{begin_startable, visits_startable}
+use Rattle.sound.proofs.Laws.StartedLaws.{good_one_step}
+use Rattle.sound.proofs.Laws.TableKept.{table_kept, table_written, nulls_kept, comes_written}
+use Rattle.sound.proofs.Laws.WaitLaws.{holder_waits}
 use Rattle.claims.specs.Call.{Called}
 use Rattle.claims.specs.Laws.JoinLaws.{called, passes_right, passes_entries}
 

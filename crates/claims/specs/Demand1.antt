@@ -8,8 +8,8 @@ use Rattle.verdict.specs.Verdict.{checked, refusal, check_verdict, check_list}
 use Rattle.run.specs.Entry.{not_begun, begins, report, run_report, run_output, run_list}
 use Rattle.verdict.specs.ProgramInput.{program_order, check_order}
 use Rattle.run.specs.Input.{run_order}
-use Rattle.verdict.specs.ProgramInputLaws.{checked_number, verdict_number, check_untouched}
-use Rattle.run.specs.Laws.InputLaws.{begins_number, refusal_untouched}
+use Rattle.verdict.proofs.ProgramInputLaws.{checked_number, verdict_number, check_untouched}
+use Rattle.run.proofs.Laws.InputLaws.{begins_number, refusal_untouched}
 use Rattle.step_part.specs.StepPart.{step_place, step_part}
 use Rattle.text.specs.Listing.{row}
 use Rattle.listing.specs.Listings.{refused_word, listing_of}

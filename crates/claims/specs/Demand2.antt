@@ -12,7 +12,7 @@ use Rattle.commands.specs.Coding.{words}
 use Rattle.commands.specs.Commands.{commands}
 use Rattle.commands.specs.Context.{Ctx, context, params_of, step_of}
 use Rattle.commands.specs.Noted.{erase, noted}
-use Rattle.commands.specs.Laws.NotedLaws.{erased}
+use Rattle.commands.proofs.Laws.NotedLaws.{erased}
 use Rattle.table.specs.Table.{Record, enc_table, TableRight}
 use Rattle.machine.specs.Published.{structs}
 use Rattle.machine.specs.Machine.{Instance, Machine, Moved.next, move}
@@ -22,7 +22,7 @@ use Rattle.run.specs.Holders.{holders}
 use Rattle.run.specs.Run.{Outcome.stopped, run}
 use Rattle.run.specs.Visits.{Visits, turns_of}
 use Rattle.run.specs.StepTurns.{Spends}
-use Rattle.run.specs.Laws.StepTurnsLaws.{step_turns as start_turns}
+use Rattle.run.proofs.Laws.StepTurnsLaws.{step_turns as start_turns}
 use Rattle.run.specs.Begin.{params_in, begin, table_of}
 use Rattle.run.specs.Initial.{initially}
 use Rattle.run.specs.Comes.{Comes}
@@ -31,15 +31,15 @@ use Rattle.verdict.specs.Verdict.{checked, listed, approval, check_verdict, chec
 use Rattle.run.specs.Entry.{begun, begins, run_output}
 use Rattle.verdict.specs.ProgramInput.{check_order, AcceptedImage, Approved}
 use Rattle.run.specs.Input.{run_order, TableAccepted, Runnable, Began}
-use Rattle.verdict.specs.ProgramInputLaws.{checked_accepted, verdict_approved, check_approved}
-use Rattle.run.specs.Laws.InputLaws.{begins_ready, begins_none}
-use Rattle.run.specs.Laws.BeginLaws.{begin_stands}
+use Rattle.verdict.proofs.ProgramInputLaws.{checked_accepted, verdict_approved, check_approved}
+use Rattle.run.proofs.Laws.InputLaws.{begins_ready, begins_none}
+use Rattle.run.proofs.Laws.BeginLaws.{begin_stands}
 use Rattle.run.specs.Answered.{Answered}
-use Rattle.run.specs.Laws.AnsweredLaws.{comes_answered}
+use Rattle.run.proofs.Laws.AnsweredLaws.{comes_answered}
 use Rattle.commands.specs.Accepted.{Accepted}
-use Rattle.sound.specs.Laws.AcceptedLaws.{ready_accepted}
+use Rattle.sound.proofs.Laws.AcceptedLaws.{ready_accepted}
 use Rattle.sound.specs.Started.{OneStep}
-use Rattle.sound.specs.Laws.TableKept.{output_length}
+use Rattle.sound.proofs.Laws.TableKept.{output_length}
 use Rattle.step_part.specs.StepPart.{step_place, step_part}
 use Rattle.step_lines.specs.Lines.{program_lines}
 use Rattle.listing.specs.Listings.{head, listing_of}

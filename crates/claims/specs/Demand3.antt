@@ -12,13 +12,13 @@ use Rattle.run.specs.Entry.{run_report}
 use Rattle.run.specs.Initial.{initially}
 use Rattle.run.specs.Runs.{Config, Config.config, StandsFor, Passes}
 use Rattle.run.specs.Input.{run_order, Runnable}
-use Rattle.run.specs.Laws.BeginLaws.{begin_stands}
-use Rattle.run.specs.Laws.InputLaws.{begins_none}
+use Rattle.run.proofs.Laws.BeginLaws.{begin_stands}
+use Rattle.run.proofs.Laws.InputLaws.{begins_none}
 use Rattle.sound.specs.Needs.{Right}
 use Rattle.sound.specs.NeverStuck.{Demand3}
 use Rattle.sound.specs.Startable.{Startable}
-use Rattle.sound.specs.Laws.AcceptedLaws.{ready_accepted}
-use Rattle.sound.specs.Laws.NeverStuckLaws.{never_stuck_numbers}
+use Rattle.sound.proofs.Laws.AcceptedLaws.{ready_accepted}
+use Rattle.sound.proofs.Laws.NeverStuckLaws.{never_stuck_numbers}
 use Rattle.claims.specs.Call.{Call}
 use Rattle.claims.specs.Laws.JoinLaws.{ready_call}
 use Rattle.claims.specs.Laws.ReportLaws.{report_numbers}

@@ -13,13 +13,13 @@ use Rattle.blocks.specs.declared.Read.TheVariants.{Stream}
 use Rattle.blocks.specs.declared.Written.TheVariants.{Blocks}
 use Rattle.blocks.specs.Images.{most, fault, stream, image, pieces, read as read_image, read_into, write}
 use Rattle.blocks.specs.Answers.{StreamRight, WriteSays}
-use Rattle.blocks.specs.AnswerLaws.{write_says, read_fits, write_fits, read_written_into}
-use Rattle.blocks.specs.ImageBytes.{image_bytes}
-use Rattle.blocks.specs.ImageRoundTrip.{one_image}
+use Rattle.blocks.proofs.AnswerLaws.{write_says, read_fits, write_fits, read_written_into}
+use Rattle.blocks.proofs.ImageBytes.{image_bytes}
+use Rattle.blocks.proofs.ImageRoundTrip.{one_image}
 use Rattle.types.specs.TypeBytes.{TypeByte, is_type}
-use Rattle.types.specs.Laws.TypeLaws.{type_exact}
+use Rattle.types.proofs.Laws.TypeLaws.{type_exact}
 use Rattle.types.specs.Values.{Val, IntRange, in_int, int_word, default}
-use Rattle.types.specs.Laws.ValueLaws.{int_exact}
+use Rattle.types.proofs.Laws.ValueLaws.{int_exact}
 use Rattle.types.specs.Stages.{Stage.went as table}
 use Rattle.program.specs.Tree.{Op, Expr, Program}
 use Rattle.program.specs.Encoding.{enc_word, enc_program}
@@ -27,48 +27,48 @@ use Rattle.program.specs.Counts.{Counts, CountsTo}
 use Rattle.program.specs.Levels.{levels_program}
 use Rattle.program.specs.Reader.{Result.bad, read, wrong_end}
 use Rattle.program.specs.Fronts.{Front, EndsAt, OffendsAt}
-use Rattle.program.specs.Laws.FrontLaws.{program_viable, ends_unique, offends_unique, levels_exactly}
+use Rattle.program.proofs.Laws.FrontLaws.{program_viable, ends_unique, offends_unique, levels_exactly}
 use Rattle.commands.specs.Accepted.{Accepted}
 use Rattle.commands.specs.Commands.{Coms, Coms.if_then, Flat.if_n, then, flatten}
-use Rattle.commands.specs.Laws.CommandLaws.{if_true, if_false}
+use Rattle.commands.proofs.Laws.CommandLaws.{if_true, if_false}
 use Rattle.commands.specs.Context.{Ctx}
 use Rattle.commands.specs.Bounds.{Within}
 use Rattle.commands.specs.Decide.BoundsDecide.{within}
-use Rattle.commands.specs.Decide.BoundsDecideLaws.{within_exact}
+use Rattle.commands.proofs.Decide.BoundsDecideLaws.{within_exact}
 use Rattle.commands.specs.Names.{NamesRight}
 use Rattle.commands.specs.Decide.NamesDecide.{stepped, names_right}
-use Rattle.commands.specs.Decide.NamesDecideLaws.{names_exact}
+use Rattle.commands.proofs.Decide.NamesDecideLaws.{names_exact}
 use Rattle.commands.specs.Typing.{Types, TypesRight}
 use Rattle.commands.specs.Decide.TypingDecide.{types_right}
-use Rattle.commands.specs.Decide.TypingDecideLaws.{types_unique, types_exact}
+use Rattle.commands.proofs.Decide.TypingDecideLaws.{types_unique, types_exact}
 use Rattle.operators.specs.Operators.{Applies, Exceeds}
-use Rattle.operators.specs.Laws.ApplyLaws.{applies_unique, applies_not_exceeds}
+use Rattle.operators.proofs.Laws.ApplyLaws.{applies_unique, applies_not_exceeds}
 use Rattle.table.specs.Table.{Record, enc_table, HeldTable, TableRight}
 use Rattle.table.specs.TableReader.{table_of_stream}
-use Rattle.table.specs.Laws.TableLaws.{table_back, table_injective}
-use Rattle.table.specs.Laws.SizeLaws.{Bytes, table_bytes}
+use Rattle.table.proofs.Laws.TableLaws.{table_back, table_injective}
+use Rattle.table.proofs.Laws.SizeLaws.{Bytes, table_bytes}
 use Rattle.table.specs.TableFaults.{Field, field_bytes, Allowed, Front as TableFront}
-use Rattle.table.specs.Laws.TableViable.{Viable, front_viable, offending_final}
+use Rattle.table.proofs.Laws.TableViable.{Viable, front_viable, offending_final}
 use Rattle.machine.specs.Published.{StepCall, Sched, Sched.start, Inst, State, State.state, structs}
 use Rattle.machine.specs.Rules.{meet, Actor, Actor.instance, Actor.schedule, Rule}
-use Rattle.machine.specs.Laws.RulesLaws.{meet_each}
-use Rattle.machine.specs.Laws.RuleUnique.{rule_unique, full_not_exceeded}
+use Rattle.machine.proofs.Laws.RulesLaws.{meet_each}
+use Rattle.machine.proofs.Laws.RuleUnique.{rule_unique, full_not_exceeded}
 use Rattle.machine.specs.Stops.{Full, Exceeded}
 use Rattle.machine.specs.Machine.{Instance, Machine, Out.stuck, Moved.stuck, command, move}
 use Rattle.machine.specs.Represents.{Represents}
-use Rattle.machine.specs.Laws.RepresentsLaws.{Still}
-use Rattle.machine.specs.Laws.CommandAgrees.{command_stuck}
-use Rattle.machine.specs.Laws.MoveAgrees.{move_stuck}
+use Rattle.machine.proofs.Laws.RepresentsLaws.{Still}
+use Rattle.machine.proofs.Laws.CommandAgrees.{command_stuck}
+use Rattle.machine.proofs.Laws.MoveAgrees.{move_stuck}
 use Rattle.run.specs.Turns.{labels_from, chosen}
 use Rattle.run.specs.Holders.{holders, due}
-use Rattle.run.specs.Laws.TurnLaws.{labels_ascend, holder_chosen}
+use Rattle.run.proofs.Laws.TurnLaws.{labels_ascend, holder_chosen}
 use Rattle.run.specs.Runs.{Config, Config.config, Runs, Passes}
-use Rattle.run.specs.Laws.RunAgreesVisits.{passes_bounded, all_taken}
+use Rattle.run.proofs.Laws.RunAgreesVisits.{passes_bounded, all_taken}
 use Rattle.run.specs.Run.{Outcome.jammed, run}
 use Rattle.run.specs.Begin.{begin}
 use Rattle.run.specs.Initial.{idle, of_record, first_insts, initially}
 use Rattle.run.specs.Comes.{Comes}
-use Rattle.run.specs.Laws.BeginLaws.{null_at, record_at, first_length, begin_stands}
+use Rattle.run.proofs.Laws.BeginLaws.{null_at, record_at, first_length, begin_stands}
 use Rattle.sound.specs.Invariant.{Good}
 use Rattle.orders.specs.Orders.{Completes, Turns}
 use Rattle.orders.specs.Touches.{Apart}

@@ -9,12 +9,12 @@ use Rattle.commands.specs.Commands.{Flat}
 use Rattle.commands.specs.Coding.{command_word}
 use Rattle.commands.specs.ProgramWords.{structs_list, program_words}
 use Rattle.commands.specs.Decoding.{decode, InRanges}
-use Rattle.commands.specs.Laws.CodingLaws.{word_injective}
+use Rattle.commands.proofs.Laws.CodingLaws.{word_injective}
 use Rattle.operators.specs.Operators.{quotient, remainder}
 use Rattle.operators.specs.Rounding.{TowardMinusInfinity, DivisorSigned}
-use Rattle.operators.specs.Laws.RoundingLaws.{quotient_downward, quotient_unique, remainder_signed, remainder_unique}
+use Rattle.operators.proofs.Laws.RoundingLaws.{quotient_downward, quotient_unique, remainder_signed, remainder_unique}
 use Rattle.verdict.specs.Verdict.{listed}
-use Rattle.verdict.specs.ListLaws.{listed_decoded, words_determine}
+use Rattle.verdict.proofs.ListLaws.{listed_decoded, words_determine}
 
 -- The coding of a command in its place of the list: its word determines it,
 pub word_determines : (c d : Flat) → InRanges c → InRanges d → command_word c ≡ command_word d → c ≡ d

@@ -16,7 +16,7 @@ use Rattle.run.specs.Holders.{holders, due}
 use Rattle.run.specs.Initial.{initially}
 use Rattle.run.specs.Runs.{Config, StandsFor, Passes}
 use Rattle.run.specs.Visits.{Visits}
-use Rattle.run.specs.Laws.BeginLaws.{begin_stands}
+use Rattle.run.proofs.Laws.BeginLaws.{begin_stands}
 use Rattle.sound.specs.Needs.{Right}
 use Rattle.sound.specs.NeverStuck.{NeverStuck}
 use Rattle.paused.specs.Paused.{Paused, holding_in}

@@ -6,11 +6,11 @@ use Rattle.program.specs.Tree.{Program}
 use Rattle.commands.specs.Accepted.{Accepted}
 use Rattle.table.specs.Table.{Record, TableRight}
 use Rattle.machine.specs.Machine.{Instance, Machine, Out.next, Moved.next, command, move}
-use Rattle.machine.specs.Laws.FromLaws.{command_from, move_from}
+use Rattle.machine.proofs.Laws.FromLaws.{command_from, move_from}
 use Rattle.run.specs.Holders.{holders}
 use Rattle.run.specs.Begin.{begin}
 use Rattle.run.specs.Visits.{Visits}
-use Rattle.run.specs.Laws.BeginLaws.{begin_from}
+use Rattle.run.proofs.Laws.BeginLaws.{begin_from}
 use Rattle.sound.specs.Waiting.{ActsWithin, StopsBefore}
 use Rattle.claims.specs.AnyRun.{table_startable, run_acts_in_turn}
 

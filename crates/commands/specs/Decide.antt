@@ -1,11 +1,7 @@
 -- Tests on lists (for 01, numbers 6 to 8).
-pub mod DecideLaws
 pub mod NamesDecide
-pub mod NamesDecideLaws
 pub mod TypingDecide
-pub mod TypingDecideLaws
 pub mod BoundsDecide
-pub mod BoundsDecideLaws
 use Rattle.std.specs.Prelude.{ℕ, Bool, true, false, not, ◌&&◌, ◌||◌, List, [], ◌∷◌, eqb}
 
 -- of every element

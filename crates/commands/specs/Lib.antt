@@ -8,7 +8,6 @@ pub mod Decoding
 pub mod Depth
 pub mod Bounds
 pub mod ProgramWords
-pub mod ProgramWordsLaws
 pub mod Noted
 pub mod Sizes
 pub mod Decide
@@ -18,8 +17,4 @@ pub mod Tags
 pub mod Locals
 pub mod Living
 pub mod Secure
-pub mod Steps
-pub mod Heights
 pub mod Unfold
-pub mod Exhibits
-pub mod Laws

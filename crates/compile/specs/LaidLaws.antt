@@ -10,9 +10,9 @@ use Rattle.types.specs.Types.{Ty}
 use Rattle.program.specs.Tree.{Item, Item.call, Item.call_in, Item.fix, Items, Items.stop, Items.item, Step, Program}
 use Rattle.program.specs.Counts.{CountsItem, CountsItems, CountsSchedule, Counts}
 use Rattle.program.specs.Reader.{Result, Result.ok, Result.bad, then, pair, made, read_items, read_item, read_program, read}
-use Rattle.program.specs.Laws.PartLaws.{told_is}
-use Rattle.program.specs.Laws.ItemLaws.{schedule_exact}
-use Rattle.program.specs.Laws.ProgramLaws.{program_law}
+use Rattle.program.proofs.Laws.PartLaws.{told_is}
+use Rattle.program.proofs.Laws.ItemLaws.{schedule_exact}
+use Rattle.program.proofs.Laws.ProgramLaws.{program_law}
 use Rattle.commands.specs.Bounds.{arities, Within}
 use Rattle.emit.specs.declared.Put.{Put}
 use Rattle.emit.specs.Written.{code_of, Ready, Wrote}

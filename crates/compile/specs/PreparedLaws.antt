@@ -4,14 +4,14 @@ use Rattle.std.proofs.Common.{arith, sym, ◌∙◌}
 use Rattle.types.specs.Limits.{max_structs, max_commands}
 use Rattle.program.specs.Counts.{All, Counts}
 use Rattle.program.specs.Reader.{Result.ok}
-use Rattle.program.specs.Laws.ProgramLaws.{program_law}
+use Rattle.program.proofs.Laws.ProgramLaws.{program_law}
 use Rattle.commands.specs.Bounds.{Within}
 use Rattle.commands.specs.ProgramWords.{program_words}
 use Rattle.directory.specs.declared.Row.{Row}
 use Rattle.directory.specs.Directory.{directory}
 use Rattle.directory.specs.Rows.{rows_from}
-use Rattle.directory.specs.DirectoryLaws.{RowInRange, all_both, directory_ranged, directory_inside}
-use Rattle.directory.specs.FindLaws.{directory_marks}
+use Rattle.directory.proofs.DirectoryLaws.{RowInRange, all_both, directory_ranged, directory_inside}
+use Rattle.directory.proofs.FindLaws.{directory_marks}
 use Rattle.emit.specs.Written.{Ready}
 use Rattle.memory.specs.Plan.{Located}
 use Rattle.compile.specs.Codes.{schedule_codes, schedule_at}

@@ -3,7 +3,7 @@
 use Rattle.std.specs.Prelude.{ℕ, zero, suc, ◌+◌, ◌*◌, ◌≤◌, List, [], ◌∷◌, set}
 use Rattle.types.specs.Limits.{max_structs, step_names, max_commands}
 use Rattle.directory.specs.declared.Row.{Row}
-use Rattle.directory.specs.DirectoryLaws.{RowInRange}
+use Rattle.directory.proofs.DirectoryLaws.{RowInRange}
 use Rattle.memory.specs.Plan.{span_of}
 
 -- two numbers for each name of each struct

@@ -13,10 +13,10 @@ use Rattle.commands.specs.Context.{step_of}
 use Rattle.directory.specs.declared.Row.{Row}
 use Rattle.directory.specs.Directory.{find_row}
 use Rattle.directory.specs.Rows.{row_at, rows_from}
-use Rattle.directory.specs.RowsLaws.{rows_more}
+use Rattle.directory.proofs.RowsLaws.{rows_more}
 use Rattle.directory.specs.Held.{Marks}
-use Rattle.directory.specs.DirectoryLaws.{RowInRange}
-use Rattle.directory.specs.FindLaws.{find_here, find_past, find_other, find_none}
+use Rattle.directory.proofs.DirectoryLaws.{RowInRange}
+use Rattle.directory.proofs.FindLaws.{find_here, find_past, find_other, find_none}
 use Rattle.memory.specs.Plan.{span_of, from, to, Spans}
 use Rattle.compile.specs.Spans.{span_places, paired, cleared, noted, spans_of}
 

@@ -10,8 +10,8 @@ use Rattle.types.specs.Limits.{step_names, max_items}
 use Rattle.program.specs.Tree.{Item, Item.call, Item.call_in, Item.fix, Items, Items.stop, Items.item}
 use Rattle.program.specs.Reader.{Result, Result.ok, Result.bad, wrong_byte, then, pair, made, lookup, ranged, ItemSort, ItemSort.sort_call}
 use Rattle.program.specs.Reader.{ItemSort.sort_call_in, ItemSort.sort_fix, ItemSort.sort_none, item_sort, rule_item, read_item, read_items}
-use Rattle.program.specs.Laws.PartLaws.{made_ok}
-use Rattle.program.specs.Laws.ItemLaws.{OpensItem, opens_item}
+use Rattle.program.proofs.Laws.PartLaws.{made_ok}
+use Rattle.program.proofs.Laws.ItemLaws.{OpensItem, opens_item}
 use Rattle.emit.specs.declared.Put.{Put}
 use Rattle.emit.specs.Written.{Good, next_of, code_of, Ready, Wrote}
 use Rattle.emit.specs.Laws.WrittenLaws.{placed_one, placed_as, placed_kept, placed_last, placed_first}

@@ -9,7 +9,7 @@ use Rattle.machine.specs.Published.{Sched.done, fresh_env}
 use Rattle.machine.specs.Machine.{Instance, Machine, machine}
 use Rattle.machine.specs.Measure.{total, codes}
 use Rattle.run.specs.Begin.{resting}
-use Rattle.run.specs.Rows.RowsOpen.{running}
+use Rattle.run.proofs.Rows.RowsOpen.{running}
 use Rattle.counts.specs.Numbers.{sum}
 use Rattle.counts.specs.Tally.{Kind.ends, Kind.stops, value_in, one_if, at_rest, at_refusal, after, tally_by, tally_with, tally}
 use Rattle.orders.specs.StepAnswer.{alone, step_machine}

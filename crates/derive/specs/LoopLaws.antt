@@ -2,7 +2,7 @@
 use Rattle.std.specs.Prelude.{ℕ, ◌+◌, ◌≤◌, ◌<◌, ◌≡◌, refl, Bool, true, false, List, [], ◌∷◌, get_or, drop, eqb}
 use Rattle.std.proofs.Common.{arith, sym, ◌∙◌, length-set, drop-set-lt, ne_eqb}
 use Rattle.std.proofs.Math.ListN.{length, drop_of_length-le}
-use Rattle.types.specs.Laws.ListLaws.{drop_next}
+use Rattle.types.proofs.Laws.ListLaws.{drop_next}
 use Rattle.tokens.specs.Marking.{kinds_in}
 use Rattle.lexer.specs.Gaps.{Gap}
 use Rattle.lexer.specs.GapLaws.{gap_over}

@@ -8,7 +8,7 @@ use Rattle.program.specs.Tree.{Program}
 use Rattle.program.specs.Reader.{Result.ok, read_params, read}
 use Rattle.commands.specs.Bounds.{arities, program_size}
 use Rattle.commands.specs.ProgramWords.{structs_words, program_words}
-use Rattle.commands.specs.ProgramWordsLaws.{program_length}
+use Rattle.commands.proofs.ProgramWordsLaws.{program_length}
 use Rattle.emit.specs.declared.Put.{Put}
 use Rattle.emit.specs.Written.{code_of, Ready, Wrote, structs_at}
 use Rattle.emit.specs.Laws.ProgramLaws.{program_steps, whole_program}

@@ -10,7 +10,7 @@ use Rattle.machine.specs.Published.{Sched.done, fresh_env}
 use Rattle.machine.specs.Machine.{Instance, Machine, machine}
 use Rattle.machine.specs.Represents.{values}
 use Rattle.run.specs.Begin.{resting, begin}
-use Rattle.run.specs.Rows.RowsOpen.{running}
+use Rattle.run.proofs.Rows.RowsOpen.{running}
 use Rattle.counts.specs.Rows.{two_writers, racing}
 use Rattle.every_order.specs.Watch.{Watch, Watch.unwatched, Watch.capped, Cap.fixed, Cap.parameter, number_in, is_true, share, total}
 use Rattle.every_order.specs.Watch.{parameter_of, cap_in, over, records_of}

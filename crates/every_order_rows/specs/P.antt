@@ -4,7 +4,7 @@ use Rattle.std.specs.Prelude.{ℕ, ◌≡◌, refl, true, false, List, [], ◌�
 use Rattle.machine.specs.Published.{State}
 use Rattle.run.specs.Begin.{begin}
 use Rattle.run.specs.Initial.{initial}
-use Rattle.run.specs.Laws.BeginLaws.{begin_represents}
+use Rattle.run.proofs.Laws.BeginLaws.{begin_represents}
 use Rattle.orders.specs.Exhibits.{P, two}
 use Rattle.counts.specs.Numbers.{Number}
 use Rattle.every_order.specs.Watch.{Watch.unwatched}

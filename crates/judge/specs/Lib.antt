@@ -2,4 +2,3 @@ pub mod Facts
 pub mod Verdicts
 pub mod Unfold
 pub mod ProgramFacts
-pub mod Laws

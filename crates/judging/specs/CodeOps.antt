@@ -9,7 +9,7 @@ use Rattle.program.specs.Tree.{Op, Op.op_eq, Op.op_ne, Op.op_le, Op.op_ge, Op.op
 use Rattle.program.specs.Tree.{Op.op_and, Op.op_or}
 use Rattle.program.specs.Reader.{form, Form.form_op}
 use Rattle.program.specs.Encoding.{op_code}
-use Rattle.program.specs.Laws.ExprLaws.{Opens, opens}
+use Rattle.program.proofs.Laws.ExprLaws.{Opens, opens}
 use Rattle.commands.specs.Typing.{Sort, Sort.equality, Sort.order, Sort.arithmetic, Sort.logic, sort}
 use Rattle.judge.specs.Facts.{bool_code, takes, gives}
 

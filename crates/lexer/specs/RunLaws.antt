@@ -7,7 +7,7 @@ use Rattle.std.proofs.Math.Bool.{true, false}
 use Rattle.std.proofs.Math.ListN.{length, drop_of_length-le}
 use Rattle.std.proofs.Math.Dec.{eqb}
 use borrow.Author.Tests.{eq-eqb, ne_eqb}
-use Rattle.types.specs.Laws.ListLaws.{drop_next, eqb_sym}
+use Rattle.types.proofs.Laws.ListLaws.{drop_next, eqb_sym}
 use Rattle.tokens.specs.Lexing.{close}
 use Rattle.tokens.specs.Tokens.{same}
 use Rattle.tokens.specs.Scanning.{span, begins, one_more, closing}

@@ -1,5 +1,6 @@
 // Tokens of program text by their kinds (02 §1): for each place of a text the kind of the token that begins there, 0 where none does.
 #![tactic(auto)]
+
 pub mod bytes;
 pub mod gaps;
 pub mod words;

@@ -6,9 +6,9 @@ use Rattle.types.specs.Limits.{max_commands}
 use Rattle.types.specs.Stages.{Stage.stopped as refused}
 use Rattle.program.specs.Tree.{Program}
 use Rattle.commands.specs.Bounds.{Within}
-use Rattle.commands.specs.Laws.NumbersLaws.{number_accepted}
+use Rattle.commands.proofs.Laws.NumbersLaws.{number_accepted}
 use Rattle.directory.specs.Rows.{directory_places, rows_from}
-use Rattle.directory.specs.DirectoryLaws.{directory_count, directory_few}
+use Rattle.directory.proofs.DirectoryLaws.{directory_count, directory_few}
 use Rattle.verdict.specs.Verdict.{checked, listed}
 use Rattle.load.specs.declared.Loaded.{Loaded}
 use Rattle.load.specs.Load.{RowsHeld}

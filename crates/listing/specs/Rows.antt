@@ -8,9 +8,9 @@ use Rattle.blocks.specs.Images.{length_right, fault, image}
 use Rattle.program.specs.Encoding.{flat, op_code, var_code}
 use Rattle.program.specs.Reader.{read}
 use Rattle.verdict.specs.Verdict.{of_read, of_image, checked}
-use Rattle.verdict.specs.VerdictLaws.{checked_image}
-use Rattle.verdict.specs.Rows.{checking}
-use Rattle.verdict.specs.Rows.{P}
+use Rattle.verdict.proofs.VerdictLaws.{checked_image}
+use Rattle.verdict.proofs.Rows.{checking}
+use Rattle.verdict.proofs.Rows.{P}
 use Rattle.text.specs.Listing.{digits, decimal, column, tail, row}
 use Rattle.text.specs.CommandText.{shown, command_text}
 use Rattle.text.specs.Rows.{bytes, line_bytes}

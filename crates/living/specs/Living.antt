@@ -21,13 +21,13 @@ use Rattle.commands.specs.Context.{Ctx, params_of, context, step_of}
 use Rattle.commands.specs.Decide.{member}
 use Rattle.commands.specs.Names.{Named, NamedSteps, NamesRight}
 use Rattle.commands.specs.Secure.{Secure, Secure.stop, Secure.act}
-use Rattle.commands.specs.Steps.{of_each, found, step_secure}
+use Rattle.commands.proofs.Steps.{of_each, found, step_secure}
 use Rattle.commands.specs.Tags.{Tags, tags, Asks}
-use Rattle.commands.specs.Laws.NotedLaws.{erased}
+use Rattle.commands.proofs.Laws.NotedLaws.{erased}
 use Rattle.commands.specs.Noted.{Note, Note.n_push, Note.n_this, Note.n_not, Note.n_rd, Note.n_wr, Note.n_get, Note.n_set, Note.n_cons, Note.n_op, Note.n_if}
 use Rattle.commands.specs.Noted.{erase, noted}
 use Rattle.commands.specs.Living.{lives, alive}
-use Rattle.sound.specs.Laws.AcceptedLaws.{params_counted}
+use Rattle.sound.proofs.Laws.AcceptedLaws.{params_counted}
 use Rattle.layout.specs.Layout.{operand}
 use Rattle.layout.specs.State.{bit}
 use Rattle.living.specs.declared.Walk.{Walk}

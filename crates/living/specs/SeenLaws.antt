@@ -19,13 +19,13 @@ use Rattle.program.specs.Tree.{Expr.self, Expr.op, Exprs, Exprs.none, Exprs.more
 use Rattle.program.specs.Tree.{Stmts.end, Stmts.next}
 use Rattle.commands.specs.Context.{Ctx, typ}
 use Rattle.commands.specs.Decide.{member}
-use Rattle.commands.specs.Decide.DecideLaws.{member_reflects}
+use Rattle.commands.proofs.Decide.DecideLaws.{member_reflects}
 use Rattle.commands.specs.Names.{live_after, declares, Starts, NamedStmt, Named}
 use Rattle.commands.specs.Noted.{Note, Note.n_push, Note.n_this, Note.n_not, Note.n_rd, Note.n_wr, Note.n_get, Note.n_set, Note.n_cons, Note.n_op, Note.n_if}
 use Rattle.commands.specs.Noted.{walk, store, read_path, write_path, note_expr, note_exprs, note_stmt, note_body, noted}
 use Rattle.commands.specs.Living.{live_walk, live_expr, live_exprs, live_stmt, live_body, lives, alive}
-use Rattle.commands.specs.Laws.LivingLaws.{live_out}
-use Rattle.commands.specs.Laws.NotedLaws.{note_body_app}
+use Rattle.commands.proofs.Laws.LivingLaws.{live_out}
+use Rattle.commands.proofs.Laws.NotedLaws.{note_body_app}
 use Rattle.living.specs.Seen.{left_out, with_set, seen, Same}
 
 -- the walk over c finds the living locals ls, from l on, but for the last r commands

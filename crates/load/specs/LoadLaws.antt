@@ -10,12 +10,12 @@ use Rattle.block.specs.declared.Fault.{Fault}
 use Rattle.block.specs.declared.Found.{Found}
 use Rattle.block.specs.declared.Found.TheVariants.{Right, Wrong}
 use Rattle.blocks.specs.Images.{fault, stream, opened_into, program_number as block_number}
-use Rattle.blocks.specs.AnswerLaws.{stream_most}
+use Rattle.blocks.proofs.AnswerLaws.{stream_most}
 use Rattle.blocks.specs.declared.Opened.TheVariants.{Stream as Open}
 use Rattle.program.specs.Tree.{Program}
 use Rattle.program.specs.Counts.{Counts}
 use Rattle.program.specs.Reader.{Result, Result.ok, Result.bad, read_params, read}
-use Rattle.program.specs.Laws.ProgramLaws.{program_law}
+use Rattle.program.proofs.Laws.ProgramLaws.{program_law}
 use Rattle.commands.specs.Bounds.{arities, program_depth}
 use Rattle.commands.specs.Numbers.{breach_number}
 use Rattle.verdict.specs.Verdict.{Checked, judge, of_read, of_image, checked}
@@ -23,7 +23,7 @@ use Rattle.judge.specs.ProgramFacts.{types_table}
 use Rattle.read_params.specs.ParamsTold.{ParamsKept}
 use Rattle.read_params.specs.ParamsWays.{table_length}
 use Rattle.directory.specs.Directory.{directory}
-use Rattle.directory.specs.DirectoryLaws.{directory_count}
+use Rattle.directory.proofs.DirectoryLaws.{directory_count}
 use Rattle.directory.specs.Rows.{rows_from}
 use Rattle.emit.specs.Written.{structs_at}
 use Rattle.emit.specs.Laws.ProgramLaws.{program_steps, whole_program}

@@ -11,14 +11,14 @@ use Rattle.types.specs.Stages.{Stage.went as accepted, Stage.stopped as refused}
 use Rattle.program.specs.Tree.{Step, Program}
 use Rattle.program.specs.Counts.{All, Few, CountsStep, Counts}
 use Rattle.program.specs.Reader.{Result, Result.ok, Result.bad, read_params, read}
-use Rattle.program.specs.Laws.ProgramLaws.{program_law}
+use Rattle.program.proofs.Laws.ProgramLaws.{program_law}
 use Rattle.commands.specs.Bounds.{total, greatest, step_depth, arities, program_size, program_depth, Within}
 use Rattle.commands.specs.Numbers.{breach_number}
-use Rattle.commands.specs.Laws.NumbersLaws.{number_accepted}
+use Rattle.commands.proofs.Laws.NumbersLaws.{number_accepted}
 use Rattle.verdict.specs.Verdict.{judge, of_read}
 use Rattle.judge.specs.ProgramFacts.{program_totals, program_plan, checked_number}
-use Rattle.judge.specs.Laws.ProgramFactsLaws.{checked_law, checked_commands, checked_depth}
-use Rattle.judge.specs.Laws.ProgramTableLaws.{totals_count}
+use Rattle.judge.proofs.Laws.ProgramFactsLaws.{checked_law, checked_commands, checked_depth}
+use Rattle.judge.proofs.Laws.ProgramTableLaws.{totals_count}
 use Rattle.directory.specs.Rows.{Listed}
 use Rattle.read_params.specs.ParamsTold.{ParamsKept}
 use Rattle.emit.specs.Laws.ProgramLaws.{Standing, program_steps, whole_program}

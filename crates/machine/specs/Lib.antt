@@ -6,4 +6,3 @@ pub mod Represents
 pub mod Performed
 pub mod Heads
 pub mod Measure
-pub mod Laws

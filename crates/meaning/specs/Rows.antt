@@ -10,7 +10,6 @@ use Rattle.syntax.specs.Syntax.{Exp.null, Exp.this, Exps.no_exps, Exps.exps, Sta
 use Rattle.syntax.specs.Syntax.{Stats.no_stats, Stats.stats, Par.par, Step.step, Struct.struct, Defs.last_struct, Defs.defs, Item.execution}
 use Rattle.syntax.specs.Syntax.{Item.typed_execution, Item.fixpoint, Sched.last_item, Sched.barrier, Program, Program.program}
 use Rattle.syntax.specs.Letters.{A, B, C, a, b, c, s, t, u, x, y}
-use Rattle.meaning.specs.Meant.{then}
 use Rattle.meaning.specs.Meant.{meant}
 use Rattle.program.specs.Unfold.{encodings}
 use Rattle.meaning.specs.Unfold.{meanings}

@@ -5,4 +5,3 @@ pub mod Ranges
 pub mod Unfold
 pub mod Rows
 pub mod Words
-pub mod Laws

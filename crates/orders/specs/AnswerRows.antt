@@ -7,7 +7,7 @@ use Rattle.commands.specs.Names.{names_of_steps}
 use Rattle.table.specs.Table.{Record}
 use Rattle.machine.specs.Measure.{total, codes}
 use Rattle.run.specs.Holders.{none_of, due}
-use Rattle.run.specs.Rows.RowsOpen.{running}
+use Rattle.run.proofs.Rows.RowsOpen.{running}
 use Rattle.orders.specs.Following.{top_deed, write_deed, code_deed, deed_at}
 use Rattle.orders.specs.Marks.{read_at, write_at, marked, placed, note}
 use Rattle.orders.specs.ZeroTurns.{Answer.apart, Answer.together, turned, unless_due, follow}

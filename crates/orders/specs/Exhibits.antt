@@ -19,18 +19,18 @@ use Rattle.machine.specs.Published.{structs, StepCall.global, Sched.done, Sched.
 use Rattle.machine.specs.Rules.{Actor.schedule, Rule}
 use Rattle.machine.specs.Machine.{Tagged, tagged, Instance, Machine, Moved.next, move, machine, started}
 use Rattle.machine.specs.Represents.{Represents}
-use Rattle.machine.specs.Laws.RepresentsLaws.{Still, still_done}
-use Rattle.machine.specs.Laws.MoveAgrees.{move_follows}
+use Rattle.machine.proofs.Laws.RepresentsLaws.{Still, still_done}
+use Rattle.machine.proofs.Laws.MoveAgrees.{move_follows}
 use Rattle.run.specs.Begin.{begin, first_instances, table_of}
 use Rattle.run.specs.Initial.{initial, first_insts}
 use Rattle.run.specs.Comes.{table_in}
 use Rattle.run.specs.Runs.{Due}
-use Rattle.run.specs.Rows.RowsOpen.{running}
-use Rattle.run.specs.Laws.BeginLaws.{begin_stands}
-use Rattle.run.specs.Laws.OutcomeLaws.{table_represents}
-use Rattle.sound.specs.Laws.BeginGood.{begin_good}
-use Rattle.sound.specs.Laws.ElemLaws.{none_some, some_is}
-use Rattle.sound.specs.Exhibits.ExhibitTurns.{by_stream}
+use Rattle.run.proofs.Rows.RowsOpen.{running}
+use Rattle.run.proofs.Laws.BeginLaws.{begin_stands}
+use Rattle.run.proofs.Laws.OutcomeLaws.{table_represents}
+use Rattle.sound.proofs.Laws.BeginGood.{begin_good}
+use Rattle.sound.proofs.Laws.ElemLaws.{none_some, some_is}
+use Rattle.sound.proofs.Exhibits.ExhibitTurns.{by_stream}
 use Rattle.orders.specs.Orders.{Completes}
 use Rattle.orders.specs.Touches.{Use.writing, Does, Apart}
 use Rattle.orders.specs.Constructing.{MakesNone, ConstructsNothing}

@@ -4,7 +4,7 @@ use Rattle.std.proofs.Common.{arith, sym, ◌∙◌, length-take-le, le-leb}
 use Rattle.std.proofs.Math.Path.{ap}
 use Rattle.block.specs.Block.{block_size}
 use Rattle.blocks.specs.Images.{pieces, stream_right, write, written_into}
-use Rattle.blocks.specs.WriteWays.{write_done}
+use Rattle.blocks.proofs.WriteWays.{write_done}
 use Rattle.blocks.specs.declared.Written.{Written}
 use Rattle.blocks.specs.declared.Written.TheVariants.{Blocks}
 use Rattle.paused_write.specs.Written.{most_stream, most_blocks, stream_image}

@@ -14,7 +14,7 @@ use Rattle.little_endian.specs.Numbers.{bytes_of}
 use Rattle.program.specs.Encoding.{enc_word, flat}
 use Rattle.table.specs.Table.{value_bytes, count_bytes}
 use Rattle.table.specs.Sizes.{head_bytes}
-use Rattle.table.specs.Laws.SizeLaws.{word_length, stored_word}
+use Rattle.table.proofs.Laws.SizeLaws.{word_length, stored_word}
 use Rattle.emit.specs.Laws.WrittenLaws.{sets_append}
 use Rattle.layout.specs.declared.Numbers.{Numbers}
 use Rattle.layout.specs.Layout.{row_size, variable, operand, holds}

@@ -18,7 +18,7 @@ use Rattle.program.specs.Encoding.{enc_word, flat}
 use Rattle.commands.specs.Accepted.{Accepted}
 use Rattle.commands.specs.Decide.{member}
 use Rattle.commands.specs.Noted.{Note}
-use Rattle.commands.specs.Laws.SecureWays.{way_short}
+use Rattle.commands.proofs.Laws.SecureWays.{way_short}
 use Rattle.table.specs.Table.{count_bytes}
 use Rattle.machine.specs.Machine.{Instance, Machine}
 use Rattle.machine.specs.Published.{structs}
@@ -28,7 +28,7 @@ use Rattle.layout.specs.State.{State, bit}
 use Rattle.memory.specs.Laws.ChooseStands.{holds_same}
 use Rattle.table_read.specs.Refer.{struct_in}
 use Rattle.table_read.specs.Laws.LaidLaws.{at_place}
-use Rattle.sound.specs.Laws.AcceptedLaws.{params_counted}
+use Rattle.sound.proofs.Laws.AcceptedLaws.{params_counted}
 use Rattle.living.specs.Walk.{locals_from, living_at}
 use Rattle.living.specs.Living.{Marking, marks_living}
 use Rattle.paused.specs.Allowed.{no_position, CountedHeld, CountedPaused}

@@ -12,7 +12,7 @@ use Rattle.types.specs.Limits.{max_locals, first_local, variables}
 use Rattle.little_endian.specs.Numbers.{bytes_of}
 use Rattle.program.specs.Encoding.{enc_word, flat}
 use Rattle.table.specs.Table.{value_bytes}
-use Rattle.table.specs.Laws.SizeLaws.{word_length, stored_word}
+use Rattle.table.proofs.Laws.SizeLaws.{word_length, stored_word}
 use Rattle.emit.specs.Laws.WrittenLaws.{sets_append}
 use Rattle.layout.specs.Layout.{row_size, variable, stacked, operand}
 use Rattle.living.specs.Walk.{locals_from}

@@ -9,4 +9,3 @@ pub mod Exact
 pub mod Follows
 pub mod Unfold
 pub mod Rows
-pub mod Laws

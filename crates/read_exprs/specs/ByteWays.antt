@@ -12,7 +12,7 @@ use Rattle.std.proofs.Math.Dec.{T}
 use borrow.Author.Tests.{lt-ltb, le-ltb, le-leb, lt-leb}
 use Rattle.types.specs.Types.{Ty, code, type_of}
 use Rattle.types.specs.TypeBytes.{is_type}
-use Rattle.program.specs.Laws.CodeLaws.{code_type}
+use Rattle.program.proofs.Laws.CodeLaws.{code_type}
 use Rattle.program.specs.Reader.{Result, Result.ok, Result.bad, then, made, many, guard, between, byte_end, byte, tested, ranged, read_word, read_type}
 use Rattle.judge.specs.declared.Facts.{Facts}
 use Rattle.judge.specs.Facts.{pushed}

@@ -12,7 +12,7 @@ use Rattle.answers.specs.Answers.{Answer, Answer.value, Answer.refused, answer, 
 use Rattle.answers.specs.AnswerLaws.{answer_is, answer_stops, answer_made, row_none, row_stop, row_more}
 use Rattle.judge.specs.declared.Facts.{Facts}
 use Rattle.judge.specs.Facts.{pushed, negated, combined, travelled, path_of, appended, constructed, no_args, expr_facts, args_facts}
-use Rattle.judge.specs.Laws.FollowLaws.{behind, behind_argued, none_behind, behind_none, args_typ, expr_high}
+use Rattle.judge.proofs.Laws.FollowLaws.{behind, behind_argued, none_behind, behind_none, args_typ, expr_high}
 use Rattle.read_exprs.specs.declared.read.ByteRead.TheVariants.{Byte, NoByte}
 use Rattle.read_exprs.specs.declared.read.ExprRead.{ExprRead}
 use Rattle.read_exprs.specs.declared.read.ExprRead.TheVariants.{Value, Refused}

@@ -5,7 +5,7 @@ use Rattle.program.specs.Tree.{Op, Op.op_eq, Op.op_ne, Op.op_le, Op.op_ge, Op.op
 use Rattle.program.specs.Tree.{Op.op_and, Op.op_or}
 use Rattle.program.specs.Reader.{lookup, Form, Form.form_inv, Form.form_make, Form.form_path, Form.form_int, Form.form_nat, Form.form_bool}
 use Rattle.program.specs.Reader.{Form.form_null, Form.form_self, Form.form_op, Form.form_none, form}
-use Rattle.program.specs.Laws.ExprLaws.{Opens, opens, op_range}
+use Rattle.program.proofs.Laws.ExprLaws.{Opens, opens, op_range}
 
 -- the bytes from 32 to 44 open operators
 pub op_form : (b : ℕ) → 32 ≤ b → b ≤ 44 → (o : Op) × (form b ≡ form_op o)

@@ -10,7 +10,7 @@ use Rattle.std.proofs.Math.Seq.{sets}
 use Rattle.std.proofs.lemmas.List.Edits.{sets-eq}
 use Rattle.types.specs.Types.{Ty, code}
 use Rattle.types.specs.TypeBytes.{is_type}
-use Rattle.types.specs.Laws.SetsLaws.{sets_append}
+use Rattle.types.proofs.Laws.SetsLaws.{sets_append}
 use Rattle.program.specs.Reader.{Result, Result.ok, Result.bad, then, made, many, tested, ranged, counted, read_type, read_params}
 use Rattle.judge.specs.declared.Facts.{Facts}
 use Rattle.judge.specs.Facts.{pushed}

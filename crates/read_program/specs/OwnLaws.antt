@@ -8,8 +8,8 @@ use Rattle.program.specs.Counts.{All}
 use Rattle.directory.specs.declared.Row.{Row}
 use Rattle.directory.specs.Directory.{is_row, found, there}
 use Rattle.directory.specs.Rows.{row_places, put_row, row_at, rows_from}
-use Rattle.directory.specs.RowsLaws.{rows_none, rows_last, rows_added}
-use Rattle.directory.specs.FindLaws.{find_none, find_past, there_none, there_last}
+use Rattle.directory.proofs.RowsLaws.{rows_none, rows_last, rows_added}
+use Rattle.directory.proofs.FindLaws.{find_none, find_past, there_none, there_last}
 use Rattle.judge.specs.declared.Done.{Done}
 use Rattle.read_program.specs.declared.totals.Totals.{Totals}
 use Rattle.read_program.specs.Total.{plus}

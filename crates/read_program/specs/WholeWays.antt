@@ -9,11 +9,11 @@ use Rattle.program.specs.Tree.{Items, Step, Program}
 use Rattle.program.specs.Reader.{Result, Result.ok, Result.bad, wrong_end, then, pair, made, many, ended, whole, read_params, read_steps, read_items}
 use Rattle.program.specs.Reader.{read_item, read_program, read}
 use Rattle.directory.specs.Directory.{directory}
-use Rattle.directory.specs.DirectoryLaws.{directory_count}
+use Rattle.directory.proofs.DirectoryLaws.{directory_count}
 use Rattle.directory.specs.Rows.{rows_from}
 use Rattle.judge.specs.ProgramFacts.{Totals as Sum, Planned as Plan, plan, no_totals, types_table, step_totals, items_plan, exceeded}
 use Rattle.judge.specs.ProgramFacts.{totals_number, program_totals, program_plan}
-use Rattle.judge.specs.Laws.ProgramTableLaws.{totals_count, totals_listed}
+use Rattle.judge.proofs.Laws.ProgramTableLaws.{totals_count, totals_listed}
 use Rattle.read_params.specs.declared.ParamsRead.TheVariants.{Value as ParamsValue, Refused as ParamsRefused}
 use Rattle.read_schedule.specs.declared.PlanRead.TheVariants.{Value as PlanValue, Refused as PlanRefused}
 use Rattle.read_schedule.specs.declared.Planned.{Planned}

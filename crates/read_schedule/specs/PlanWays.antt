@@ -8,12 +8,12 @@ use Rattle.program.specs.Tree.{Item, Item.call, Item.fix, Items, Items.stop, Ite
 use Rattle.program.specs.Reader.{Result, Result.ok, Result.bad, then, pair, made, many, opened, counted, lookup, item_sort, ItemSort}
 use Rattle.program.specs.Reader.{ItemSort.sort_call, ItemSort.sort_call_in, ItemSort.sort_fix, ItemSort.sort_none, ranged, rule_item, read_item}
 use Rattle.program.specs.Reader.{read_items}
-use Rattle.program.specs.Laws.ItemLaws.{OpensItem, opens_item}
+use Rattle.program.proofs.Laws.ItemLaws.{OpensItem, opens_item}
 use Rattle.directory.specs.declared.Row.{Row}
 use Rattle.directory.specs.Directory.{there}
 use Rattle.judge.specs.Facts.{named}
 use Rattle.judge.specs.ProgramFacts.{Planned as Plan, plan, had, joined, item_plan, items_plan}
-use Rattle.judge.specs.Laws.FollowLaws.{joined_assoc, none_joined, joined_none}
+use Rattle.judge.proofs.Laws.FollowLaws.{joined_assoc, none_joined, joined_none}
 use Rattle.answers.specs.Answers.{Answer, Answer.value, Answer.refused, answer}
 use Rattle.answers.specs.AnswerLaws.{row_none, row_stop, row_more}
 use Rattle.read_exprs.specs.declared.read.ByteRead.TheVariants.{Byte, NoByte}

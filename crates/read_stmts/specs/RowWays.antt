@@ -13,7 +13,7 @@ use Rattle.read_exprs.specs.Told.{byte_told}
 use Rattle.judge.specs.declared.Scope.{Scope}
 use Rattle.judge.specs.declared.Done.{Done}
 use Rattle.judge.specs.Facts.{nothing, followed, stmt_facts, body_facts}
-use Rattle.judge.specs.Laws.FollowLaws.{followed_assoc, nothing_followed, followed_nothing, stmt_low}
+use Rattle.judge.proofs.Laws.FollowLaws.{followed_assoc, nothing_followed, followed_nothing, stmt_low}
 use Rattle.read_stmts.specs.declared.StmtRead.TheVariants.{Value, Refused}
 use Rattle.read_stmts.specs.Done.{stmt_read, done, DoneAhead, DoneWithin}
 use Rattle.read_stmts.specs.StmtWays.{stmt_value, stmt_refused, done_is, body_is}

@@ -10,8 +10,8 @@ use Rattle.types.specs.Numbers.{no_room, no_program}
 use Rattle.types.specs.Stages.{Stage.went as written, Stage.stopped as refused, on, asked, given}
 use Rattle.block.specs.Block.{block_size}
 use Rattle.blocks.specs.Images.{image, pieces, stream_right, write, written_into}
-use Rattle.blocks.specs.ImageLaws.{image_length}
-use Rattle.blocks.specs.WriteWays.{write_done}
+use Rattle.blocks.proofs.ImageLaws.{image_length}
+use Rattle.blocks.proofs.WriteWays.{write_done}
 use Rattle.blocks.specs.declared.Written.{Written}
 use Rattle.blocks.specs.declared.Written.TheVariants.{Blocks}
 use Rattle.program.specs.Tree.{Program}

@@ -8,7 +8,7 @@ use Rattle.std.proofs.Math.Option.{Option, none, some}
 use Rattle.std.proofs.lemmas.List.Edits.{sets}
 use Rattle.types.specs.Numbers.{no_token, no_derivation}
 use Rattle.types.specs.Stages.{Stage.stopped as refused, on, asked, given}
-use Rattle.types.specs.Laws.ListLaws.{sets_whole}
+use Rattle.types.proofs.Laws.ListLaws.{sets_whole}
 use Rattle.tokens.specs.Tokens.{Token}
 use Rattle.tokens.specs.Scanning.{lex}
 use Rattle.syntax.specs.Syntax.{Program as Derivation}

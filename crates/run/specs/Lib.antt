@@ -7,10 +7,8 @@ pub mod Visits
 pub mod Begin
 pub mod Entry
 pub mod EntryStreams
-pub mod Rows
 pub mod Input
 pub mod StepTurns
 pub mod Initial
 pub mod Comes
 pub mod Answered
-pub mod Laws

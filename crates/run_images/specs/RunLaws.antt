@@ -7,16 +7,16 @@ use Rattle.types.specs.Limits.{max_commands, max_instances, schedule_items}
 use Rattle.program.specs.Tree.{Program}
 use Rattle.commands.specs.Bounds.{program_size, program_depth, Within}
 use Rattle.commands.specs.Accepted.{Accepted}
-use Rattle.commands.specs.Laws.NumbersLaws.{number_accepts}
+use Rattle.commands.proofs.Laws.NumbersLaws.{number_accepts}
 use Rattle.verdict.specs.Verdict.{listed}
 use Rattle.commands.specs.ProgramWords.{structs_words, program_words}
 use Rattle.emit.specs.Written.{Ready as Writable, structs_at}
 use Rattle.emit_steps.specs.Emitted.{EmittedProgram}
 use Rattle.emit_steps.specs.ProgramLaws.{program_ready}
 use Rattle.machine.specs.Machine.{Machine}
-use Rattle.run.specs.Laws.RunAgreesVisits.{run_turns}
+use Rattle.run.proofs.Laws.RunAgreesVisits.{run_turns}
 use Rattle.run.specs.Entry.{report, report_of, output_of, last_stream}
-use Rattle.sound.specs.Laws.AcceptedLaws.{accepted_firm}
+use Rattle.sound.proofs.Laws.AcceptedLaws.{accepted_firm}
 use Rattle.layout.specs.State.{State, state_of}
 use Rattle.memory.specs.Plan.{At}
 use Rattle.memory.specs.Laws.ChooseStands.{holding_few}

@@ -4,10 +4,10 @@ use Rattle.std.proofs.Common.{arith, ap, ◌∙◌}
 use Rattle.types.specs.Limits.{max_structs, max_params}
 use Rattle.types.specs.Stages.{Stage.went as accepted}
 use Rattle.block.specs.Put.{put}
-use Rattle.block.specs.Laws.PutLaws.{put_front}
+use Rattle.block.proofs.Laws.PutLaws.{put_front}
 use Rattle.blocks.specs.Images.{stream}
 use Rattle.directory.specs.Rows.{row_places, directory_places}
-use Rattle.directory.specs.DirectoryLaws.{directory_count, directory_few}
+use Rattle.directory.proofs.DirectoryLaws.{directory_count, directory_few}
 use Rattle.verdict.specs.Verdict.{checked}
 use Rattle.load.specs.declared.Loaded.{Loaded}
 use Rattle.load.specs.Load.{RowsHeld, Held}

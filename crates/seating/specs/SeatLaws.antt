@@ -5,7 +5,7 @@ use Rattle.types.specs.Limits.{max_instances}
 use Rattle.types.specs.Stages.{Stage.went as table, Stage.stopped as no_table, Stage.went as accepted, Stage.stopped as refused, on}
 use Rattle.program.specs.Tree.{Program}
 use Rattle.program.specs.Counts.{Counts}
-use Rattle.program.specs.Laws.ProgramLaws.{program_law}
+use Rattle.program.proofs.Laws.ProgramLaws.{program_law}
 use Rattle.judge.specs.ProgramFacts.{types_table}
 use Rattle.table.specs.Table.{Record}
 use Rattle.table.specs.TableReader.{TableAnswer}
@@ -13,10 +13,10 @@ use Rattle.commands.specs.Bounds.{arities}
 use Rattle.verdict.specs.Verdict.{checked, listed}
 use Rattle.machine.specs.Published.{structs}
 use Rattle.run.specs.Begin.{begin}
-use Rattle.run.specs.Laws.BeginLaws.{begin_idle, begin_from}
+use Rattle.run.proofs.Laws.BeginLaws.{begin_idle, begin_from}
 use Rattle.run.specs.Entry.{tabled, begun, not_begun, with_table, images}
-use Rattle.sound.specs.Laws.BeginGood.{begin_good}
-use Rattle.sound.specs.Laws.TabledLaws.{begin_tabled}
+use Rattle.sound.proofs.Laws.BeginGood.{begin_good}
+use Rattle.sound.proofs.Laws.TabledLaws.{begin_tabled}
 use Rattle.layout.specs.Layout.{head_size, row_size}
 use Rattle.layout.specs.declared.Numbers.{Numbers}
 use Rattle.layout.specs.State.{fresh}

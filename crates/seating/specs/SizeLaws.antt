@@ -9,14 +9,14 @@ use Rattle.program.specs.Tree.{Exprs.none, Exprs.more, Stmt, Stmt.when, Stmt.dec
 use Rattle.program.specs.Tree.{Item.call_in, Item.fix, Items, Items.stop, Items.item, Step, Program, size, items}
 use Rattle.program.specs.Encoding.{enc_list, flat, enc_path, enc_expr, enc_exprs, enc_stmt, enc_stmts, enc_item, enc_items, enc_step, enc_program}
 use Rattle.program.specs.Counts.{All, Few, Counts}
-use Rattle.program.specs.Laws.ProgramLaws.{program_law}
+use Rattle.program.proofs.Laws.ProgramLaws.{program_law}
 use Rattle.commands.specs.Sizes.{expr_size, args_size, stmt_size, body_size}
-use Rattle.commands.specs.Laws.SizeLaws.{program_size_is}
+use Rattle.commands.proofs.Laws.SizeLaws.{program_size_is}
 use Rattle.commands.specs.Bounds.{total, item_count, items_count, Within}
-use Rattle.commands.specs.Laws.NumbersLaws.{number_accepts}
+use Rattle.commands.proofs.Laws.NumbersLaws.{number_accepts}
 use Rattle.load.specs.declared.Loaded.{Loaded}
 use Rattle.load.specs.LoadLaws.{LoadedAs, accepted_source}
-use Rattle.table.specs.Laws.SizeLaws.{word_length}
+use Rattle.table.proofs.Laws.SizeLaws.{word_length}
 use Rattle.seating.specs.Seated.{most_bytes}
 
 -- at most five bytes for a command

@@ -15,8 +15,8 @@ use Rattle.commands.specs.Coding.{words}
 use Rattle.commands.specs.Commands.{commands}
 use Rattle.commands.specs.Context.{body_local, context, step_of}
 use Rattle.commands.specs.Noted.{Note, erase, noted}
-use Rattle.commands.specs.Steps.{step_secure}
-use Rattle.commands.specs.Laws.NotedLaws.{erased}
+use Rattle.commands.proofs.Steps.{step_secure}
+use Rattle.commands.proofs.Laws.NotedLaws.{erased}
 use Rattle.living.specs.Living.{marks_living}
 use Rattle.paused.specs.Spot.{spot_at}
 use Rattle.paused.specs.Paused.{Held}

@@ -10,10 +10,10 @@ use borrow.Author.Tests.{eq-eqb, ne_eqb}
 use Rattle.types.specs.Limits.{max_locals, nat_end}
 use Rattle.types.specs.Reflects.{Reflects, Reflects.holds, Reflects.fails}
 use Rattle.types.specs.Types.{Ty, code}
-use Rattle.types.specs.Laws.ListLaws.{cons_eq}
+use Rattle.types.proofs.Laws.ListLaws.{cons_eq}
 use Rattle.little_endian.specs.Numbers.{word_at}
 use Rattle.commands.specs.Decide.{member}
-use Rattle.commands.specs.Decide.DecideLaws.{member_reflects}
+use Rattle.commands.proofs.Decide.DecideLaws.{member_reflects}
 use Rattle.layout.specs.State.{bit}
 use Rattle.living.specs.Seen.{Marks}
 use Rattle.paused.specs.Paused.{Held}

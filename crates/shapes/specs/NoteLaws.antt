@@ -23,7 +23,7 @@ use Rattle.commands.specs.Typing.{sort}
 use Rattle.commands.specs.Noted.{Note, Note.n_push, Note.n_this, Note.n_not, Note.n_rd, Note.n_wr, Note.n_get, Note.n_set, Note.n_cons, Note.n_op, Note.n_if}
 use Rattle.commands.specs.Noted.{erase, now_written}
 use Rattle.commands.specs.Tags.{tags, stack_after, result_type, Asks}
-use Rattle.types.specs.Laws.ListLaws.{map_drop}
+use Rattle.types.proofs.Laws.ListLaws.{map_drop}
 use Rattle.shapes.specs.Heights.{kind, operand, word_takes, word_puts}
 use Rattle.shapes.specs.HeightLaws.{kind_of, operand_of, takes_word, puts_word}
 use Rattle.shapes.specs.Afters.{type_byte, struct_byte, bool_byte, read_byte, result_byte, put_by, word_put, word_after, locals_by, word_locals}

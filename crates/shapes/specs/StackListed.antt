@@ -12,7 +12,7 @@ use Rattle.std.proofs.Math.ListN.{length}
 use Rattle.std.proofs.Math.Dec.{ltb, eqb}
 use borrow.Author.Tests.{lt-ltb, le-ltb, le-leb, lt-leb, eq-eqb, ne_eqb, ltb-true}
 use Rattle.types.specs.Limits.{nat_end}
-use Rattle.types.specs.Laws.ListLaws.{cons_eq}
+use Rattle.types.proofs.Laws.ListLaws.{cons_eq}
 use Rattle.types.specs.Types.{Ty, Ty.int, Ty.nat, Ty.bool, Ty.ref, code, struct_code}
 use Rattle.little_endian.specs.Numbers.{word_at}
 use Rattle.paused.specs.Paused.{Held}

@@ -11,9 +11,9 @@ use Rattle.commands.specs.Commands.{commands}
 use Rattle.commands.specs.Context.{context, step_of}
 use Rattle.commands.specs.Decoding.{InRanges}
 use Rattle.commands.specs.Noted.{Note, erase, noted}
-use Rattle.commands.specs.Steps.{of_each, found, step_safe}
-use Rattle.commands.specs.Laws.NotedLaws.{erased}
-use Rattle.commands.specs.Laws.RangeLaws.{StepRanged, program_ranged}
+use Rattle.commands.proofs.Steps.{of_each, found, step_safe}
+use Rattle.commands.proofs.Laws.NotedLaws.{erased}
+use Rattle.commands.proofs.Laws.RangeLaws.{StepRanged, program_ranged}
 use Rattle.paused.specs.Laws.StepLaws.{step_level}
 use Rattle.shapes.specs.declared.judge.Place.{Place}
 use Rattle.shapes.specs.NoteLaws.{Tables}

@@ -9,16 +9,16 @@ use Rattle.std.proofs.Math.ListN.{get_or, drop, length-replicate}
 use Rattle.std.proofs.Math.Seq.{drop-cons, take-append_seam}
 use Rattle.types.specs.Limits.{max_locals}
 use Rattle.types.specs.Types.{Ty.ref, code}
-use Rattle.types.specs.Laws.ListLaws.{map_take}
+use Rattle.types.proofs.Laws.ListLaws.{map_take}
 use Rattle.commands.specs.Context.{Ctx}
 use Rattle.commands.specs.Decoding.{InRanges}
 use Rattle.commands.specs.Noted.{Note, Note.n_this, erase}
 use Rattle.commands.specs.Tags.{Tags, tags, at_start, Safe, Way, Way.start, Way.on, Way.over}
 use Rattle.commands.specs.Living.{alive, beside, Among}
 use Rattle.commands.specs.Secure.{Secure}
-use Rattle.commands.specs.Laws.SafeLaws.{ready, way_safe}
-use Rattle.commands.specs.Laws.SecureLaws.{now_more}
-use Rattle.commands.specs.Laws.SecureWays.{behind, beside_on, beside_over, way_short, way_secure}
+use Rattle.commands.proofs.Laws.SafeLaws.{ready, way_safe}
+use Rattle.commands.proofs.Laws.SecureLaws.{now_more}
+use Rattle.commands.proofs.Laws.SecureWays.{behind, beside_on, beside_over, way_short, way_secure}
 use Rattle.paused.specs.Rise.{rise, shape}
 use Rattle.paused.specs.Laws.RiseLaws.{Level}
 use Rattle.paused.specs.Laws.ShapeLaws.{way_labels, way_above}

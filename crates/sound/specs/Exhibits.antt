@@ -1,9 +1,5 @@
 -- Demand 3 is not empty (01, 'The words of demand 3'): a run of a program refused with 8, and one of a program refused with 7,
 -- passes through a machine whose next command lacks what it needs, and jams there.
-pub mod ExhibitTurns
-pub mod ExhibitLacks
-pub mod ExhibitAccepted
-pub mod ExhibitLocals
 use Rattle.std.specs.Prelude.{ℕ, ◌≡◌, refl, false, List, [], ◌∷◌, pos}
 use Rattle.std.proofs.Common.{arith, ap, subst}
 use Rattle.std.proofs.Math.Option.{some}
@@ -15,14 +11,14 @@ use Rattle.program.specs.Tree.{Stmts, Program}
 use Rattle.program.specs.Counts.{Counts}
 use Rattle.commands.specs.Noted.{Note, Note.n_this, Note.n_not, Note.n_wr, Note.n_get}
 use Rattle.commands.specs.Numbers.{wrong_names, wrong_types, breach_number}
-use Rattle.commands.specs.Exhibits.{program, negated, outlived, refused_8, refused_7}
+use Rattle.commands.proofs.Exhibits.{program, negated, outlived, refused_8, refused_7}
 use Rattle.table.specs.Table.{Record, HeldTable, References, TableRight}
 use Rattle.machine.specs.Published.{fresh_env}
 use Rattle.machine.specs.Machine.{Tagged, tagged, Instance, Machine}
 use Rattle.run.specs.Run.{Outcome.jammed, run}
 use Rattle.run.specs.Visits.{Visits}
 use Rattle.run.specs.Begin.{begin}
-use Rattle.run.specs.Rows.RowsOpen.{running}
+use Rattle.run.proofs.Rows.RowsOpen.{running}
 use Rattle.sound.specs.Needs.{Needs, NextReady}
 use Rattle.sound.specs.NeverStuck.{Demand3}
 use Rattle.sound.specs.After.{onward, act_on, after, after_visited}

@@ -11,4 +11,3 @@ pub mod NeverStuck
 pub mod Waiting
 pub mod After
 pub mod Exhibits
-pub mod Laws

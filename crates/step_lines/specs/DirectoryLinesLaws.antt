@@ -14,8 +14,8 @@ use Rattle.directory.specs.declared.Row.{Row}
 use Rattle.directory.specs.Directory.{steps_rows, structs_rows, directory}
 use Rattle.directory.specs.Rows.{row_places, rows_from}
 use Rattle.directory.specs.Held.{Holds}
-use Rattle.directory.specs.HeldLaws.{holds_program, holds_step, holds_struct, holds_words}
-use Rattle.directory.specs.DirectoryLaws.{RowInRange, all_both, directory_ranged, directory_inside, directory_size}
+use Rattle.directory.proofs.HeldLaws.{holds_program, holds_step, holds_struct, holds_words}
+use Rattle.directory.proofs.DirectoryLaws.{RowInRange, all_both, directory_ranged, directory_inside, directory_size}
 use Rattle.step_lines.specs.Lines.{step_lines, steps_lines, structs_lines, program_lines}
 use Rattle.step_lines.specs.RowLines.{line_most, word_lines, row_lines, rows_lines, Listable}
 use Rattle.step_lines.specs.RowLinesLaws.{flat_append}

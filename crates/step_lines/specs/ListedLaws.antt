@@ -5,14 +5,14 @@ use Rattle.types.specs.Limits.{max_structs}
 use Rattle.types.specs.Types.{Ty, Ty.int, Ty.nat, Ty.bool, Ty.ref, IsType}
 use Rattle.types.specs.Values.{default}
 use Rattle.types.specs.TypeBytes.{ValueOf, word_end}
-use Rattle.types.specs.Laws.ValueLaws.{value_in_range}
+use Rattle.types.proofs.Laws.ValueLaws.{value_in_range}
 use Rattle.program.specs.Tree.{Var, Var.loc, Expr, Expr.inv, Expr.make, Expr.path, Expr.int_lit, Expr.nat_lit, Expr.bool_lit, Expr.null, Expr.self}
 use Rattle.program.specs.Tree.{Expr.op, Exprs, Exprs.none, Exprs.more, Stmt, Stmt.when, Stmt.declare, Stmt.update, Stmt.create, Stmts, Stmts.end}
 use Rattle.program.specs.Tree.{Stmts.next, Step}
 use Rattle.program.specs.Encoding.{var_code}
 use Rattle.program.specs.Counts.{All, CountsExpr, CountsExprs, CountsStmt, CountsStmts, CountsStep}
 use Rattle.commands.specs.Commands.{Coms, then, reads, front, expr_coms, args_coms, update_coms, stmt_coms, body_coms, Flat, flatten, commands}
-use Rattle.commands.specs.Laws.CommandLaws.{flatten_then}
+use Rattle.commands.proofs.Laws.CommandLaws.{flatten_then}
 use Rattle.commands.specs.Bounds.{step_list}
 use Rattle.commands.specs.Coding.{words}
 use Rattle.text.specs.Listing.{line}

@@ -5,7 +5,7 @@ use Rattle.program.specs.Counts.{All}
 use Rattle.directory.specs.declared.Row.{Row}
 use Rattle.directory.specs.Rows.{row_places, rows_from}
 use Rattle.directory.specs.Held.{part}
-use Rattle.directory.specs.DirectoryLaws.{RowInRange, sizes}
+use Rattle.directory.proofs.DirectoryLaws.{RowInRange, sizes}
 use Rattle.text.specs.Listing.{line}
 
 -- a line has at most that many bytes

@@ -5,8 +5,8 @@ use Rattle.program.specs.Encoding.{flat}
 use Rattle.commands.specs.Bounds.{total}
 use Rattle.directory.specs.declared.Row.{Row}
 use Rattle.directory.specs.Rows.{row_at, rows_from}
-use Rattle.directory.specs.RowsLaws.{rows_next, rows_last}
-use Rattle.directory.specs.DirectoryLaws.{sizes}
+use Rattle.directory.proofs.RowsLaws.{rows_next, rows_last}
+use Rattle.directory.proofs.DirectoryLaws.{sizes}
 use Rattle.text.specs.Listing.{Placed, line}
 use Rattle.text.specs.ListingLaws.{placed_none, placed_as, placed_on}
 use Rattle.step_lines.specs.RowLines.{word_lines, row_lines, rows_lines}

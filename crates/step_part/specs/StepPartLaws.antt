@@ -10,19 +10,19 @@ use Rattle.types.specs.Limits.{max_commands}
 use Rattle.types.specs.Numbers.{no_room}
 use Rattle.types.specs.Reflects.{Reflects, Reflects.holds, Reflects.fails, lt_reflects}
 use Rattle.types.specs.Orders.{Numbered}
-use Rattle.types.specs.Laws.OrderLaws.{foremost_numbered}
+use Rattle.types.proofs.Laws.OrderLaws.{foremost_numbered}
 use Rattle.types.specs.Stages.{Stage.went as accepted, Stage.stopped as refused, on, asked}
 use Rattle.program.specs.Tree.{Program}
 use Rattle.commands.specs.Bounds.{Within}
 use Rattle.directory.specs.declared.Row.{Row}
 use Rattle.directory.specs.Directory.{directory, find_row}
 use Rattle.directory.specs.Rows.{sought}
-use Rattle.directory.specs.DirectoryLaws.{directory_inside}
-use Rattle.directory.specs.FindLaws.{IfFound, find_all}
+use Rattle.directory.proofs.DirectoryLaws.{directory_inside}
+use Rattle.directory.proofs.FindLaws.{IfFound, find_all}
 use Rattle.verdict.specs.Verdict.{Checked, checked, checks, verdict_of, check_verdict}
-use Rattle.verdict.specs.VerdictLaws.{checks_room}
+use Rattle.verdict.proofs.VerdictLaws.{checks_room}
 use Rattle.verdict.specs.ProgramInput.{program_order}
-use Rattle.verdict.specs.ProgramInputLaws.{checked_number, checked_accepted}
+use Rattle.verdict.proofs.ProgramInputLaws.{checked_number, checked_accepted}
 use Rattle.step_part.specs.declared.Spot.{Spot}
 use Rattle.step_part.specs.StepPart.{nowhere, spot_of, spot_at, spot_by, step_place, step_part}
 

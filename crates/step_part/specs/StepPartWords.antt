@@ -16,11 +16,11 @@ use Rattle.commands.specs.Context.{step_of}
 use Rattle.directory.specs.declared.Row.{Row}
 use Rattle.directory.specs.Directory.{steps_rows, structs_rows, directory, is_row, find_row}
 use Rattle.directory.specs.Held.{Marks}
-use Rattle.directory.specs.FindLaws.{directory_marks}
+use Rattle.directory.proofs.FindLaws.{directory_marks}
 use Rattle.verdict.specs.Verdict.{Checked, of_read, checked, listed, checks, check_list}
-use Rattle.verdict.specs.VerdictLaws.{checked_image, checks_room}
-use Rattle.verdict.specs.ProgramInputLaws.{checked_accepted, check_approved}
-use Rattle.verdict.specs.Rows.{P, listed_P, checking}
+use Rattle.verdict.proofs.VerdictLaws.{checked_image, checks_room}
+use Rattle.verdict.proofs.ProgramInputLaws.{checked_accepted, check_approved}
+use Rattle.verdict.proofs.Rows.{P, listed_P, checking}
 use Rattle.step_part.specs.declared.Spot.{Spot}
 use Rattle.step_part.specs.StepPart.{nowhere, spot_of, spot_by, step_place, step_part}
 use Rattle.step_part.specs.StepPartLaws.{spot_refused, spot_accepted, spot_number}

@@ -1,9 +1,8 @@
 -- A derivation in progress: where what is read next stands, with the trees that were read before it, the last one first.
 use Rattle.std.specs.Prelude.{List, [], ◌∷◌}
 use Rattle.program.specs.Tree.{Op}
-use Rattle.tokens.specs.Tokens.{Token.name}
 use Rattle.syntax.specs.Syntax.{Id, TypeName, Var, Var.dot}
-use Rattle.syntax.specs.Syntax.{Exp, Exp.brackets, Exp.variable, Exps, Exps.exps, Stat, Stat.assignment, Stat.construct, Stats, Stats.stats}
+use Rattle.syntax.specs.Syntax.{Exp, Exps, Exps.exps, Stat, Stats, Stats.stats}
 use Rattle.syntax.specs.Syntax.{Par, Step, Struct, Defs, Defs.defs, Item, Sched, Sched.barrier}
 
 -- where statements stand: in a step (of the structs before, the struct's name, parameters and steps before), or in an if (behind some statements)

@@ -10,7 +10,7 @@ use Rattle.syntax.specs.Syntax.{TypeName.int_type, TypeName.id_type, Var.id, Var
 use Rattle.syntax.specs.Syntax.{Stat.update, Stats.no_stats, Stats.stats, Par.par, Step.step as a_step, Struct.struct, Defs.last_struct}
 use Rattle.syntax.specs.Syntax.{Item.execution, Sched.last_item, Program, Program.program}
 use Rattle.syntax.specs.Letters.{A, B, a, b, s}
-use Rattle.syntax.specs.Reading.{step, read}
+use Rattle.syntax.specs.Reading.{read}
 use Rattle.syntax.specs.Unfold.{reading}
 
 -- whether tokens derive

@@ -3,6 +3,4 @@ pub mod TableFaults
 pub mod TableReader
 pub mod Sizes
 pub mod Refusing
-pub mod TableRefusing
 pub mod Rows
-pub mod Laws

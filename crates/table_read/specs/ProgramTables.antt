@@ -5,11 +5,11 @@ use Rattle.std.proofs.lemmas.List.{length-map}
 use Rattle.std.proofs.Math.ListN.{get_or-map}
 use Rattle.types.specs.Limits.{max_structs, max_params}
 use Rattle.types.specs.Types.{Ty, Ty.int, code}
-use Rattle.types.specs.Laws.TypeLaws.{type_of_code}
+use Rattle.types.proofs.Laws.TypeLaws.{type_of_code}
 use Rattle.program.specs.Counts.{All}
-use Rattle.table.specs.Laws.SizeLaws.{few_params}
+use Rattle.table.proofs.Laws.SizeLaws.{few_params}
 use Rattle.judge.specs.ProgramFacts.{types_table}
-use Rattle.judge.specs.Laws.ProgramTableLaws.{types_at}
+use Rattle.judge.proofs.Laws.ProgramTableLaws.{types_at}
 use Rattle.read_params.specs.ParamsWays.{table_length}
 use Rattle.table_read.specs.Params.{types_from, lists_of, Tables}
 use Rattle.table_read.specs.Laws.ParamsLaws.{lists_length, list_is}

@@ -11,9 +11,9 @@ use Rattle.types.specs.Stages.{Stage.went as table}
 use Rattle.program.specs.Encoding.{enc_word, flat}
 use Rattle.program.specs.Counts.{All}
 use Rattle.table.specs.Table.{Record, enc_value, enc_record, enc_table, Held, HeldRecord, HeldTable, TableRight}
-use Rattle.table.specs.Laws.EachLaws.{each_length}
+use Rattle.table.proofs.Laws.EachLaws.{each_length}
 use Rattle.table.specs.TableReader.{table_of_stream}
-use Rattle.table.specs.Laws.TableLaws.{table_answer_exact}
+use Rattle.table.proofs.Laws.TableLaws.{table_answer_exact}
 use Rattle.table_words.specs.TableWords.{arity_at, table_words}
 use Rattle.table_stream.specs.TableStream.{stream_of}
 use Rattle.table_stream.specs.StreamAgain.{Bytes, Ends, stream_again}

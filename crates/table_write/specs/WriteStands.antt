@@ -16,15 +16,15 @@ use Rattle.program.specs.Encoding.{enc_word, flat}
 use Rattle.program.specs.Counts.{Counts}
 use Rattle.commands.specs.Context.{params_of}
 use Rattle.table.specs.Table.{value_bytes, count_bytes, enc_value, enc_record, enc_table}
-use Rattle.table.specs.Laws.SizeLaws.{each_length, few_params}
+use Rattle.table.proofs.Laws.SizeLaws.{each_length, few_params}
 use Rattle.machine.specs.Published.{Sched, Env, Env.env, lookup, structs}
 use Rattle.machine.specs.Machine.{Instance, Machine}
 use Rattle.run.specs.Begin.{params_in, record_of, table_of}
 use Rattle.sound.specs.Needs.{ValueAmong}
 use Rattle.sound.specs.Invariant.{Job, Fitted, GoodAll}
 use Rattle.sound.specs.Tabled.{Tabled}
-use Rattle.sound.specs.Laws.ElemLaws.{at_below, at_drop}
-use Rattle.sound.specs.Laws.EnvLaws.{param_at}
+use Rattle.sound.proofs.Laws.ElemLaws.{at_below, at_drop}
+use Rattle.sound.proofs.Laws.EnvLaws.{param_at}
 use Rattle.layout.specs.Layout.{row_size, operand, variable}
 use Rattle.layout.specs.State.{State, of_cell}
 use Rattle.memory.specs.Laws.CellLaws.{operand_part, code_byte}

@@ -13,14 +13,14 @@ use Rattle.std.proofs.lemmas.List.Edits.{sets}
 use Rattle.std.proofs.Math.Seq.{take-append_seam}
 use borrow.Author.Tests.{le-leb}
 use Rattle.blocks.specs.Images.{stream_right, write, written_into}
-use Rattle.blocks.specs.WriteWays.{write_done}
+use Rattle.blocks.proofs.WriteWays.{write_done}
 use Rattle.blocks.specs.declared.Written.{Written as Answer}
 use Rattle.blocks.specs.declared.Written.TheVariants.{Blocks}
 use Rattle.little_endian.specs.Numbers.{bytes_of}
 use Rattle.program.specs.Encoding.{enc_word}
 use Rattle.table.specs.Table.{value_bytes, count_bytes}
 use Rattle.table.specs.Sizes.{head_bytes, most_record, most_stream}
-use Rattle.table.specs.Laws.SizeLaws.{word_length, stored_word}
+use Rattle.table.proofs.Laws.SizeLaws.{word_length, stored_word}
 use Rattle.read_params.specs.ParamsWays.{from_start}
 use Rattle.emit.specs.Laws.WrittenLaws.{sets_append}
 use Rattle.layout.specs.Layout.{row_size, operand}

@@ -2,7 +2,7 @@
 use Rattle.std.specs.Prelude.{ℕ, zero, suc, ◌+◌, ◌-◌, ◌/◌, ◌%◌, ◌≤◌, ◌<◌, ◌≡◌, refl, List, [], ◌∷◌, ◌++◌, length, drop, get_or}
 use Rattle.std.proofs.Common.{arith, sym, ap, ◌∙◌, length-append, drop_of_length-le, lt-ltb, le-ltb}
 use Rattle.std.proofs.Math.Seq.{length-sets}
-use Rattle.types.specs.Laws.ListLaws.{drop_next}
+use Rattle.types.proofs.Laws.ListLaws.{drop_next}
 use Rattle.emit.specs.Laws.WrittenLaws.{sets_append}
 use Rattle.text.specs.Listing.{digits, decimal, tail, Placed}
 

@@ -10,7 +10,7 @@ use Rattle.std.proofs.Math.Option.{Option, none, some}
 use Rattle.std.proofs.Math.ListN.{length, drop, drop_of_length-le}
 use Rattle.std.proofs.lemmas.List.{length-replicate}
 use Rattle.std.proofs.lemmas.List.Edits.{sets}
-use Rattle.types.specs.Laws.ListLaws.{sets_whole}
+use Rattle.types.proofs.Laws.ListLaws.{sets_whole}
 use Rattle.source.specs.Source.{max_text}
 use Rattle.tokens.specs.Tokens.{Token}
 use Rattle.tokens.specs.Scanning.{front, lex}

@@ -1,6 +1,7 @@
 // What the code keeps of a derivation in progress, and the role that a derivation gives each token (02 §1, §2): definitions and laws stand in specs/, the bytes
 // of roles and the codes of states by name in `role` and `state`.
 #![tactic(auto)]
+
 pub mod role;
 pub mod state;
 

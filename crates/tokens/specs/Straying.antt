@@ -1,6 +1,6 @@
 -- Why a text parts into no tokens (02 §1, 15: "an unclosed comment, or a character sequence that is no token"): after gaps and longest tokens a comment
 -- begins that is not closed, or a byte comes that is no gap and at which no token begins. Nothing here speaks of a scanner.
-use Rattle.std.specs.Prelude.{ℕ, ◌≡◌, false, List, [], ◌∷◌, ◌++◌}
+use Rattle.std.specs.Prelude.{ℕ, ◌≡◌, false, List, ◌∷◌, ◌++◌}
 use Rattle.tokens.specs.Tokens.{Token, spelling, Proper, blank}
 use Rattle.tokens.specs.Bytes.{slash, star}
 use Rattle.tokens.specs.Lexing.{close, Comment, Gap, Longest}

@@ -4,10 +4,10 @@ use Rattle.std.specs.Prelude.{ℕ, ◌≡◌, refl, List, [], ◌∷◌, ◌++�
 use Prim.Native.String.{String}
 use Rattle.program.specs.Rows.{program, adding, addings}
 use Rattle.commands.specs.Noted.{erase}
-use Rattle.verdict.specs.Rows.{P}
+use Rattle.verdict.proofs.Rows.{P}
 use Rattle.run.specs.EntryStreams.{begins_streams}
-use Rattle.run.specs.Rows.RowsOpen.{running}
-use Rattle.run.specs.Rows.RowPrograms.{one_in_fix, cell, single, empty, cells}
+use Rattle.run.proofs.Rows.RowsOpen.{running}
+use Rattle.run.proofs.Rows.RowPrograms.{one_in_fix, cell, single, empty, cells}
 use Rattle.text.specs.Listing.{digits, decimal, column, tail, row}
 use Rattle.text.specs.CommandText.{shown, command_text}
 use Rattle.text.specs.Rows.{bytes, line_bytes}

@@ -9,11 +9,11 @@ use Rattle.program.specs.Tree.{Program}
 use Rattle.machine.specs.Published.{Sched, Sched.done, Sched.start, Sched.fixpoint, Sched.active}
 use Rattle.machine.specs.Machine.{Instance, Machine, Out, Out.next, Out.refused, Out.stuck, Moved, Moved.next, Moved.stuck, command, move_by, move}
 use Rattle.machine.specs.Measure.{bound}
-use Rattle.machine.specs.Laws.MeasureLaws.{move_falls}
+use Rattle.machine.proofs.Laws.MeasureLaws.{move_falls}
 use Rattle.run.specs.Turns.{chosen}
 use Rattle.run.specs.Holders.{holders, due}
-use Rattle.run.specs.Laws.Settles.{Settles.holds, Settles.ends as SettlesEnd, Settles.moves as settles_move}
-use Rattle.run.specs.Laws.FuelLaws.{Enough, fuel_suffices, fuel_settles, settled}
+use Rattle.run.proofs.Laws.Settles.{Settles.holds, Settles.ends as SettlesEnd, Settles.moves as settles_move}
+use Rattle.run.proofs.Laws.FuelLaws.{Enough, fuel_suffices, fuel_settles, settled}
 use Rattle.run.specs.Run.{Settled, Settled.hold, Settled.stop, is_done, settle, fuel}
 use Rattle.trace.specs.Trace.{Line, Line.moved, Line.acted, move_line, moves_by, moves, turn_line, turn_lines, trace}
 

@@ -10,7 +10,7 @@ use Rattle.machine.specs.Machine.{Machine}
 use Rattle.machine.specs.Stops.{ended, out_of_turns}
 use Rattle.run.specs.Steps.{Steps.here, Steps.silent}
 use Rattle.run.specs.Visits.{Visits, Acts.moves as acts_move}
-use Rattle.sound.specs.Laws.ShallowLaws.{good_entries}
+use Rattle.sound.proofs.Laws.ShallowLaws.{good_entries}
 use Rattle.layout.specs.declared.Numbers.{Numbers}
 use Rattle.layout.specs.State.{State, state_of, due_in}
 use Rattle.memory.specs.Act.{act}

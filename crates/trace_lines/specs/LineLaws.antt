@@ -21,7 +21,7 @@ use Rattle.commands.specs.Coding.{words, command_word}
 use Rattle.commands.specs.Context.{context, step_of}
 use Rattle.commands.specs.Noted.{Note, Note.n_push, Note.n_this, Note.n_not, Note.n_rd, Note.n_wr, Note.n_get, Note.n_set, Note.n_cons, Note.n_op}
 use Rattle.commands.specs.Noted.{Note.n_if, erase, noted}
-use Rattle.commands.specs.Laws.NotedLaws.{erased}
+use Rattle.commands.proofs.Laws.NotedLaws.{erased}
 use Rattle.operators.specs.Ranges.{Of as Range, Of.of_int, Of.of_nat, Of.of_bool, Of.of_ref}
 use Rattle.table.specs.Table.{Each}
 use Rattle.machine.specs.Published.{Sched, structs}
@@ -29,7 +29,7 @@ use Rattle.machine.specs.Machine.{Tagged, Instance, Machine}
 use Rattle.sound.specs.Needs.{ValueAmong}
 use Rattle.sound.specs.Invariant.{Job, Fits, Place, Place.resting, Place.passing}
 use Rattle.sound.specs.Sized.{Lasting, Lasting.an_int, Lasting.a_nat, Lasting.a_bool, Lasting.a_null, Sized}
-use Rattle.sound.specs.Laws.ValueLaws.{ranges}
+use Rattle.sound.proofs.Laws.ValueLaws.{ranges}
 use Rattle.layout.specs.Layout.{head, struct_of, height_of, next_of, end_of, stacked, cell, type_byte, operand}
 use Rattle.layout.specs.State.{State, of_head}
 use Rattle.memory.specs.Act.{next_word}

@@ -14,8 +14,8 @@ use Rattle.machine.specs.Published.{StepCall.global, StepCall.local, Sched, Sche
 use Rattle.machine.specs.Machine.{Instance, Machine, Out, Out.next, Out.refused, Out.stuck, Moved, Moved.next, Moved.stuck, command, move}
 use Rattle.run.specs.Turns.{chosen}
 use Rattle.run.specs.Holders.{holders, due}
-use Rattle.run.specs.Laws.TurnLaws.{some_due}
-use Rattle.sound.specs.Laws.HolderLaws.{chosen_holds}
+use Rattle.run.proofs.Laws.TurnLaws.{some_due}
+use Rattle.sound.proofs.Laws.HolderLaws.{chosen_holds}
 use Rattle.layout.specs.Layout.{head, head_size, struct_of}
 use Rattle.layout.specs.declared.Numbers.{Numbers}
 use Rattle.layout.specs.State.{State, state_of, of_head}

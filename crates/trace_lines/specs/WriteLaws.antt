@@ -17,8 +17,8 @@ use Rattle.commands.specs.Noted.{Note.n_if, erase}
 use Rattle.machine.specs.Published.{lookup, structs}
 use Rattle.machine.specs.Machine.{Tagged, Instance, Machine}
 use Rattle.sound.specs.Needs.{Needs}
-use Rattle.sound.specs.Laws.EnvLaws.{param_holds}
-use Rattle.sound.specs.Laws.ValueLaws.{label_value}
+use Rattle.sound.proofs.Laws.EnvLaws.{param_holds}
+use Rattle.sound.proofs.Laws.ValueLaws.{label_value}
 use Rattle.layout.specs.Layout.{head, struct_of, height_of, next_of, variable, stacked, operand, going}
 use Rattle.layout.specs.State.{State, of_head, of_cell}
 use Rattle.memory.specs.Act.{height, top, beneath, after, next_word, stored, written, written_to, do_wr, perform, act}

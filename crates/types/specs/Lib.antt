@@ -8,4 +8,3 @@ pub mod Values
 pub mod Constants
 pub mod Orders
 pub mod Stages
-pub mod Laws

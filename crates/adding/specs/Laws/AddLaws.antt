@@ -9,28 +9,28 @@ use Rattle.types.specs.Limits.{max_instances}
 use Rattle.types.specs.Numbers.{table_value, full}
 use Rattle.types.specs.Reflects.{Reflects, Reflects.holds, Reflects.fails}
 use Rattle.types.specs.Orders.{NoneOf, Foremost, Tells.passes}
-use Rattle.types.specs.Laws.OrderLaws.{here}
+use Rattle.types.proofs.Laws.OrderLaws.{here}
 use Rattle.types.specs.Stages.{Stage, Stage.went, Stage.stopped, on, asked, Went, Stages}
-use Rattle.types.specs.Laws.StageLaws.{stage_asked, stage_on, stage_number, stage_none, stage_refused}
+use Rattle.types.proofs.Laws.StageLaws.{stage_asked, stage_on, stage_number, stage_none, stage_refused}
 use Rattle.types.specs.Types.{Ty}
 use Rattle.types.specs.TypeBytes.{ValueOf}
-use Rattle.types.specs.Laws.ValueLaws.{value_as}
+use Rattle.types.proofs.Laws.ValueLaws.{value_as}
 use Rattle.program.specs.Tree.{Program}
 use Rattle.program.specs.Counts.{All}
 use Rattle.program.specs.Reader.{Result, Result.ok, Result.bad, whole}
 use Rattle.program.specs.Exact.{Exact}
-use Rattle.program.specs.Laws.StreamLaws.{exact, injective}
-use Rattle.program.specs.Laws.JoinLaws.{pair_exact, row_exact, flat_row, AllOf}
-use Rattle.program.specs.Laws.WordLaws.{below_exact}
+use Rattle.program.proofs.Laws.StreamLaws.{exact, injective}
+use Rattle.program.proofs.Laws.JoinLaws.{pair_exact, row_exact, flat_row, AllOf}
+use Rattle.program.proofs.Laws.WordLaws.{below_exact}
 use Rattle.commands.specs.Context.{params_of}
 use Rattle.table.specs.Table.{Each}
-use Rattle.table.specs.Laws.ValueLaws.{value_of_word}
+use Rattle.table.proofs.Laws.ValueLaws.{value_of_word}
 use Rattle.verdict.specs.ProgramInput.{Reads, reads_of}
-use Rattle.verdict.specs.ProgramInputLaws.{one_program}
+use Rattle.verdict.proofs.ProgramInputLaws.{one_program}
 use Rattle.machine.specs.Published.{structs}
 use Rattle.run.specs.Entry.{report}
-use Rattle.sound.specs.Laws.ElemLaws.{at_below}
-use Rattle.sound.specs.Laws.EachLaws.{each_length}
+use Rattle.sound.proofs.Laws.ElemLaws.{at_below}
+use Rattle.sound.proofs.Laws.EachLaws.{each_length}
 use Rattle.paused.specs.Paused.{Held, Paused}
 use Rattle.paused.specs.Standing.{WordOf}
 use Rattle.paused.specs.Allowed.{Word}

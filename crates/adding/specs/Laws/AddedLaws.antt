@@ -12,27 +12,27 @@ use Rattle.types.specs.Limits.{max_instances}
 use Rattle.types.specs.Types.{Ty, Ty.int, Ty.ref}
 use Rattle.types.specs.TypeBytes.{ValueOf}
 use Rattle.types.specs.Values.{Val.int_val, Val.nat_val, Val.bool_val, Val.label, word}
-use Rattle.types.specs.Laws.ValueLaws.{value_as}
+use Rattle.types.proofs.Laws.ValueLaws.{value_as}
 use Rattle.program.specs.Tree.{Stmts, Program}
 use Rattle.program.specs.Counts.{All}
 use Rattle.commands.specs.Accepted.{Accepted}
 use Rattle.commands.specs.Context.{params_of, body_local, context}
 use Rattle.commands.specs.Noted.{Note, noted}
 use Rattle.table.specs.Table.{Each}
-use Rattle.table.specs.Laws.ValueLaws.{value_of_word}
+use Rattle.table.proofs.Laws.ValueLaws.{value_of_word}
 use Rattle.machine.specs.Published.{Sched, Inst, State.state}
 use Rattle.machine.specs.Rules.{meet}
 use Rattle.machine.specs.Machine.{machine}
 use Rattle.machine.specs.Represents.{values}
-use Rattle.machine.specs.Laws.RepresentsLaws.{represents_append}
+use Rattle.machine.proofs.Laws.RepresentsLaws.{represents_append}
 use Rattle.commands.specs.Commands.{flatten}
 use Rattle.run.specs.Begin.{resting}
 use Rattle.run.specs.Initial.{idle as idle_inst}
 use Rattle.run.specs.Runs.{Config.config, StandsFor}
 use Rattle.sound.specs.Invariant.{Job}
 use Rattle.sound.specs.NeverStuck.{NeverStuck}
-use Rattle.sound.specs.Laws.ElemLaws.{at_append, at_snoc, at_below, elem_all, all_elem}
-use Rattle.sound.specs.Laws.EachLaws.{each_map, each_length}
+use Rattle.sound.proofs.Laws.ElemLaws.{at_append, at_snoc, at_below, elem_all, all_elem}
+use Rattle.sound.proofs.Laws.EachLaws.{each_map, each_length}
 use Rattle.paused.specs.Rise.{rise, shape}
 use Rattle.paused.specs.Place.{schedule_at, job_at}
 use Rattle.paused.specs.Spot.{spot_at, spot_by}

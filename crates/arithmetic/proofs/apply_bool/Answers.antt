@@ -3,7 +3,7 @@ use Rattle.std.proofs.Common.{arith, ◌≡◌, ◌∙◌}
 use Rattle.operators.specs.Apply.{on_truths, apply}
 use Rattle.program.specs.Tree.{Op.op_or}
 use Rattle.operators.specs.Words.{op_of}
-use Rattle.operators.specs.Laws.WordLaws.{op_first, op_last, truths_unfit, truths_equal, truths_and, truths_or}
+use Rattle.operators.proofs.Laws.WordLaws.{op_first, op_last, truths_unfit, truths_equal, truths_and, truths_or}
 use Rattle.arithmetic.proofs.apply_bool.Goals as goal
 
 pub returns-then-op-le-EQ : goal.returns-then-op-le-EQ

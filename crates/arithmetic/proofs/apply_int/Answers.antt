@@ -1,7 +1,7 @@
 -- `apply_int` meets its contract: the Ints of the two words come back from their 64 bits.
 use Rattle.std.proofs.Common.{◌∙◌}
 use Rattle.operators.specs.Apply.{apply}
-use Rattle.operators.specs.Laws.IntLaws.{int_of_back}
+use Rattle.operators.proofs.Laws.IntLaws.{int_of_back}
 use Rattle.arithmetic.proofs.apply_int.Goals as goal
 
 pub returns : goal.returns

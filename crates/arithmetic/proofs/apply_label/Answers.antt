@@ -2,7 +2,7 @@
 use Rattle.std.proofs.Common.{arith, ◌∙◌}
 use Rattle.operators.specs.Apply.{on_labels, apply}
 use Rattle.operators.specs.Words.{op_of}
-use Rattle.operators.specs.Laws.WordLaws.{op_first, labels_unfit}
+use Rattle.operators.proofs.Laws.WordLaws.{op_first, labels_unfit}
 use Rattle.arithmetic.proofs.apply_label.Goals as goal
 
 pub returns-then-op-le-EQ : goal.returns-then-op-le-EQ

@@ -6,8 +6,8 @@ use mir.ValLaws.{to_z_pos}
 use Rattle.types.specs.Limits.{nat_end}
 use Rattle.operators.specs.Apply.{nat_answer, by_nonzero, answer, compute, apply}
 use Rattle.operators.specs.Words.{op_of, answered}
-use Rattle.operators.specs.Laws.WordLaws.{numbers_unfit}
-use Rattle.operators.specs.Laws.NatLaws.{nat_in, nat_out, nat_less, nat_more, nat_product, nat_quotient, nat_remainder}
+use Rattle.operators.proofs.Laws.WordLaws.{numbers_unfit}
+use Rattle.operators.proofs.Laws.NatLaws.{nat_in, nat_out, nat_less, nat_more, nat_product, nat_quotient, nat_remainder}
 use Rattle.arithmetic.specs.PastLaws.{past_computing}
 use Rattle.arithmetic.proofs.apply_nat.Goals as goal
 

@@ -3,7 +3,7 @@ use Rattle.std.proofs.Common.{◌∙◌}
 use Rattle.types.specs.Types.{type_of}
 use Rattle.types.specs.Values.{value_of}
 use Rattle.operators.specs.Words.{apply_word}
-use Rattle.operators.specs.Laws.WordLaws.{type_struct}
+use Rattle.operators.proofs.Laws.WordLaws.{type_struct}
 use Rattle.arithmetic.proofs.apply_word.Goals as goal
 
 pub returns-then-kind-eq-INT : goal.returns-then-kind-eq-INT

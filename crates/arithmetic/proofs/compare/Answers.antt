@@ -4,8 +4,8 @@ use mir.Syntax.{w64}
 use mir.ValLaws.{to_z-of_z}
 use Rattle.operators.specs.Apply.{answer, compute}
 use Rattle.operators.specs.Words.{op_of}
-use Rattle.operators.specs.Laws.WordLaws.{op_first}
-use Rattle.operators.specs.Laws.SignedLaws.{bits_same}
+use Rattle.operators.proofs.Laws.WordLaws.{op_first}
+use Rattle.operators.proofs.Laws.SignedLaws.{bits_same}
 use Rattle.arithmetic.proofs.compare.Goals as goal
 
 pub returns-then-op-le-EQ : goal.returns-then-op-le-EQ

@@ -5,9 +5,9 @@ use mir.Val.{of_z}
 use mir.ValLaws.{to_z-of_z}
 use Rattle.operators.specs.Apply.{int_answer, answer, compute, by_nonzero}
 use Rattle.operators.specs.Words.{op_of, answered}
-use Rattle.operators.specs.Laws.WordLaws.{numbers_unfit}
-use Rattle.operators.specs.Laws.SignedLaws.{zero_bits, operands, sum_carries, difference_carries, product_carries, quotient_carries, remainder_carries}
-use Rattle.operators.specs.Laws.ApplyLaws.{nonzero}
+use Rattle.operators.proofs.Laws.WordLaws.{numbers_unfit}
+use Rattle.operators.proofs.Laws.SignedLaws.{zero_bits, operands, sum_carries, difference_carries, product_carries, quotient_carries, remainder_carries}
+use Rattle.operators.proofs.Laws.ApplyLaws.{nonzero}
 use Rattle.arithmetic.specs.PastLaws.{past_computing}
 use Rattle.arithmetic.proofs.compute_int.Goals as goal
 

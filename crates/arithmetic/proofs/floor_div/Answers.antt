@@ -1,5 +1,5 @@
 -- `floor_div` meets its contract: a dividend below zero by way of -1 - x, another as it stands.
-use Rattle.operators.specs.Laws.FloorLaws.{Below, FromZero, below, from_zero}
+use Rattle.operators.proofs.Laws.FloorLaws.{Below, FromZero, below, from_zero}
 use Rattle.arithmetic.proofs.floor_div.Goals as goal
 
 pub overflow_sub-result : goal.overflow_sub-result

@@ -1,5 +1,5 @@
 -- `int_answer` meets its contract, by the four stretches that its tests tell apart.
-use Rattle.operators.specs.Laws.IntLaws.{int_too_low, int_low, int_high, int_too_high}
+use Rattle.operators.proofs.Laws.IntLaws.{int_too_low, int_low, int_high, int_too_high}
 use Rattle.arithmetic.proofs.int_answer.Goals as goal
 
 pub returns-then-z-lt-INT_LEAST : goal.returns-then-z-lt-INT_LEAST

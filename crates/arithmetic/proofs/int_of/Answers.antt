@@ -1,5 +1,5 @@
 -- `int_of` meets its contract: a word from 2147483648 on is 4294967296 less.
-use Rattle.operators.specs.Laws.IntLaws.{int_of_low, int_of_fits, int_of_high}
+use Rattle.operators.proofs.Laws.IntLaws.{int_of_low, int_of_fits, int_of_high}
 use Rattle.arithmetic.proofs.int_of.Goals as goal
 
 pub returns-then-a-lt-FIRST_NEGATIVE : goal.returns-then-a-lt-FIRST_NEGATIVE

@@ -1,6 +1,6 @@
 -- `quotient_of` meets its contract: by a divisor below zero both are negated.
 use Rattle.std.proofs.Common.{◌∙◌}
-use Rattle.operators.specs.Laws.FloorLaws.{Turned, Straight, turned, straight, quotient_back}
+use Rattle.operators.proofs.Laws.FloorLaws.{Turned, Straight, turned, straight, quotient_back}
 use Rattle.arithmetic.proofs.quotient_of.Goals as goal
 
 pub overflow_sub-x : goal.overflow_sub-x

@@ -1,5 +1,5 @@
 -- `remainder_of` meets its contract: it is the definition, and all of it fits 64 bits.
-use Rattle.operators.specs.Laws.FloorLaws.{Leaves, leaves, handed_on}
+use Rattle.operators.proofs.Laws.FloorLaws.{Leaves, leaves, handed_on}
 use Rattle.arithmetic.proofs.remainder_of.Goals as goal
 
 pub quotient_of-requires : goal.quotient_of-requires

@@ -1,5 +1,5 @@
 -- `block_fault` meets its contract, by a law for each way through it.
-use Rattle.block.specs.Laws.BlockWays.{sums_wrong, layout_wrong, block_agrees}
+use Rattle.block.proofs.Laws.BlockWays.{sums_wrong, layout_wrong, block_agrees}
 use Rattle.block.proofs.block_fault.Goals as goal
 
 pub returns-then-not-sums_right : goal.returns-then-not-sums_right

@@ -1,5 +1,5 @@
 -- `laid_out` meets its contract, by a law for each way through it.
-use Rattle.block.specs.Laws.BlockWays.{index_differs, used_wrong, used_agrees}
+use Rattle.block.proofs.Laws.BlockWays.{index_differs, used_wrong, used_agrees}
 use Rattle.block.proofs.laid_out.Goals as goal
 
 pub returns-then-pair_at-k : goal.returns-then-pair_at-k

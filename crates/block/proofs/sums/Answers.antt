@@ -2,7 +2,7 @@
 -- what is left of the 508 bytes.
 use Rattle.std.proofs.Common.{◌≡◌, ℕ, ◌-◌, ◌*◌, ◌%◌, ◌≤◌, refl, subst, arith}
 use Rattle.block.specs.Sums.{byte, sum, sum_a, sum_b}
-use Rattle.block.specs.Laws.SumLaws.{sums_turn}
+use Rattle.block.proofs.Laws.SumLaws.{sums_turn}
 use Rattle.block.proofs.sums.Goals as goal
 
 pub loop-i-init : goal.loop-i-init

@@ -1,5 +1,5 @@
 -- `sums_right` meets its contract, by a law for each way through it.
-use Rattle.block.specs.Laws.BlockWays.{a_differs, a_agrees}
+use Rattle.block.proofs.Laws.BlockWays.{a_differs, a_agrees}
 use Rattle.block.proofs.sums_right.Goals as goal
 
 pub returns-then-pair_at-s : goal.returns-then-pair_at-s

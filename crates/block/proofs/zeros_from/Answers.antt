@@ -2,7 +2,7 @@
 -- left of the 508 bytes.
 use Rattle.std.proofs.Common.{◌≡◌, ◌-◌, sym, refl, ◌∙◌}
 use Rattle.block.specs.Block.{zeros}
-use Rattle.block.specs.Laws.BlockLaws.{zeros_more, zeros_stop, zeros_end}
+use Rattle.block.proofs.Laws.BlockLaws.{zeros_more, zeros_stop, zeros_end}
 use Rattle.block.proofs.zeros_from.Goals as goal
 
 pub loop-at-init : goal.loop-at-init

@@ -1,6 +1,6 @@
 -- `image_fault` meets its contract: its length before its blocks.
 use Rattle.std.proofs.Common.{◌∙◌}
-use Rattle.blocks.specs.ImageWays.{length_wrong, length_agrees, length_blocks}
+use Rattle.blocks.proofs.ImageWays.{length_wrong, length_agrees, length_blocks}
 use Rattle.blocks.proofs.image_fault.Goals as goal
 
 pub returns-then-not-length_right : goal.returns-then-not-length_right

@@ -1,6 +1,6 @@
 -- `open_image` meets its contract, by a law for each way through it.
 use Rattle.std.proofs.Common.{sym, ◌∙◌}
-use Rattle.blocks.specs.OpeningLaws.{into_stream, into_refused, open_stream, open_refused, open_short}
+use Rattle.blocks.proofs.OpeningLaws.{into_stream, into_refused, open_stream, open_refused, open_short}
 use Rattle.blocks.proofs.open_image.Goals as goal
 
 pub returns-in-Stream : goal.returns-in-Stream

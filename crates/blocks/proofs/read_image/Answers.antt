@@ -1,7 +1,7 @@
 -- `read_image` meets its contract: a fault before a short buffer, and the stream only where neither is.
 use Rattle.std.proofs.Common.{◌∙◌, sym, refl, arith}
 use Rattle.blocks.specs.Images.{stream, read_into}
-use Rattle.blocks.specs.ImageWays.{accepted, read_refused, read_short, read_done, read_after}
+use Rattle.blocks.proofs.ImageWays.{accepted, read_refused, read_short, read_done, read_after}
 use Rattle.blocks.proofs.read_image.Goals as goal
 
 pub returns-in-Wrong : goal.returns-in-Wrong

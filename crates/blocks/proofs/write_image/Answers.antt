@@ -1,7 +1,7 @@
 -- `write_image` meets its contract: a length that is not allowed before a short output, and the image only where neither is.
 use Rattle.std.proofs.Common.{◌∙◌, refl, arith}
 use Rattle.blocks.specs.Images.{image, written_into}
-use Rattle.blocks.specs.WriteWays.{right_stream, write_refused, write_short, write_done, write_after}
+use Rattle.blocks.proofs.WriteWays.{right_stream, write_refused, write_short, write_done, write_after}
 use Rattle.blocks.proofs.write_image.Goals as goal
 
 pub returns-then-not-stream_right : goal.returns-then-not-stream_right

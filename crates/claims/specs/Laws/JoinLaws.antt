@@ -4,7 +4,7 @@ use Rattle.std.proofs.Common.{arith, ap, subst₂}
 use Rattle.std.proofs.Math.Option.{none, some}
 use Rattle.types.specs.Limits.{max_commands, fix_levels}
 use Rattle.types.specs.Orders.{Foremost}
-use Rattle.types.specs.Laws.StageLaws.{stage_number}
+use Rattle.types.proofs.Laws.StageLaws.{stage_number}
 use Rattle.program.specs.Tree.{Stmts, Program}
 use Rattle.commands.specs.Accepted.{Accepted}
 use Rattle.commands.specs.Bounds.{program_depth}
@@ -12,7 +12,7 @@ use Rattle.commands.specs.Coding.{words}
 use Rattle.commands.specs.Commands.{commands}
 use Rattle.commands.specs.Context.{context, step_of}
 use Rattle.commands.specs.Noted.{erase, noted}
-use Rattle.commands.specs.Laws.NotedLaws.{erased}
+use Rattle.commands.proofs.Laws.NotedLaws.{erased}
 use Rattle.table.specs.Table.{Record}
 use Rattle.machine.specs.Published.{Sched, Sched.fixpoint, Inst, State.state}
 use Rattle.machine.specs.Machine.{Machine}
@@ -20,22 +20,22 @@ use Rattle.run.specs.Begin.{table_of}
 use Rattle.run.specs.Holders.{holders}
 use Rattle.run.specs.Run.{Outcome.stopped, run}
 use Rattle.run.specs.Comes.{Comes}
-use Rattle.run.specs.Laws.BeginLaws.{begin_stands}
-use Rattle.run.specs.Laws.OutcomeLaws.{outcome_exact}
+use Rattle.run.proofs.Laws.BeginLaws.{begin_stands}
+use Rattle.run.proofs.Laws.OutcomeLaws.{outcome_exact}
 use Rattle.run.specs.Runs.{Config, Config.config, StandsFor, Passes}
-use Rattle.run.specs.Laws.RunAgreesVisits.{passes_visits}
+use Rattle.run.proofs.Laws.RunAgreesVisits.{passes_visits}
 use Rattle.verdict.specs.Verdict.{check_list}
 use Rattle.verdict.specs.ProgramInput.{AcceptedImage, program_order, check_order}
 use Rattle.run.specs.Input.{Runnable}
-use Rattle.verdict.specs.ProgramInputLaws.{checked_accepted, checked_number, tell_checks}
-use Rattle.run.specs.Laws.InputLaws.{begins_ready}
-use Rattle.run.specs.Laws.AnsweredLaws.{comes_answered}
+use Rattle.verdict.proofs.ProgramInputLaws.{checked_accepted, checked_number, tell_checks}
+use Rattle.run.proofs.Laws.InputLaws.{begins_ready}
+use Rattle.run.proofs.Laws.AnsweredLaws.{comes_answered}
 use Rattle.sound.specs.Needs.{Right}
-use Rattle.sound.specs.Laws.AcceptedLaws.{ready_accepted, accepted_firm}
+use Rattle.sound.proofs.Laws.AcceptedLaws.{ready_accepted, accepted_firm}
 use Rattle.sound.specs.Startable.{Startable}
-use Rattle.sound.specs.Laws.NeverStuckLaws.{visits_good, visits_right, never_stuck}
-use Rattle.sound.specs.Laws.StartableLaws.{begin_startable}
-use Rattle.sound.specs.Laws.ShallowLaws.{good_entries}
+use Rattle.sound.proofs.Laws.NeverStuckLaws.{visits_good, visits_right, never_stuck}
+use Rattle.sound.proofs.Laws.StartableLaws.{begin_startable}
+use Rattle.sound.proofs.Laws.ShallowLaws.{good_entries}
 use Rattle.step_part.specs.StepPart.{step_place, step_part}
 use Rattle.step_part.specs.StepPartWords.{step_words, step_absent, step_refused}
 use Rattle.text.specs.Listing.{row}

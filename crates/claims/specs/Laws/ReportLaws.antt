@@ -3,7 +3,7 @@ use Rattle.std.specs.Prelude.{ℕ, ◌≡◌, ◌⊎◌, List}
 use Rattle.program.specs.Tree.{Program}
 use Rattle.table.specs.Table.{Record}
 use Rattle.run.specs.Entry.{run_report}
-use Rattle.sound.specs.Laws.NeverStuckLaws.{never_stuck_numbers}
+use Rattle.sound.proofs.Laws.NeverStuckLaws.{never_stuck_numbers}
 use Rattle.claims.specs.Call.{Call}
 
 pub report_numbers : (x y es out list : List ℕ) (p : Program) (rs : List Record) → Call x y es out list p rs

@@ -9,7 +9,7 @@ use Rattle.std.proofs.Math.Option.{some}
 use Rattle.std.proofs.Math.ListN.{drop}
 use Rattle.std.proofs.lemmas.List.{length-map}
 use Rattle.std.proofs.Math.Seq.{slice, take-nil, take_at, drop_at}
-use Rattle.types.specs.Laws.ListLaws.{cons_eq, map_twice}
+use Rattle.types.proofs.Laws.ListLaws.{cons_eq, map_twice}
 use Rattle.types.specs.Limits.{max_structs, max_params}
 use Rattle.types.specs.Types.{Ty, code, struct_code}
 use Rattle.program.specs.Counts.{All}

@@ -12,7 +12,7 @@ use borrow.Author.Tests.{le-leb, lt-leb, leb-true, leb-false, eqb-true, eqb-fals
 use Rattle.types.specs.Limits.{max_params, step_names}
 use Rattle.types.specs.Numbers.{absent, wrong_types}
 use Rattle.types.specs.Types.{Ty, Ty.int, Ty.nat, Ty.bool, Ty.ref, type_of}
-use Rattle.types.specs.Laws.TypeLaws.{type_of_struct}
+use Rattle.types.proofs.Laws.TypeLaws.{type_of_struct}
 use Rattle.program.specs.Tree.{Stmts, Step, Program}
 use Rattle.commands.specs.Context.{params_of, find_step, step_of}
 use Rattle.commands.specs.Decide.{member}
@@ -22,8 +22,8 @@ use Rattle.table.specs.Table.{Record, struct_at}
 use Rattle.machine.specs.Published.{structs}
 use Rattle.machine.specs.Machine.{Instance, Machine}
 use Rattle.run.specs.Begin.{resting, nulls, first_instances}
-use Rattle.sound.specs.Laws.BeginGood.{nulls_length, null_at}
-use Rattle.sound.specs.Laws.ElemLaws.{some_is, at_append, at_behind, map_at}
+use Rattle.sound.proofs.Laws.BeginGood.{nulls_length, null_at}
+use Rattle.sound.proofs.Laws.ElemLaws.{some_is, at_append, at_behind, map_at}
 use Rattle.layout.specs.Layout.{head, struct_of}
 use Rattle.memory.specs.Plan.{span_of, from, to, Spans, Located}
 use Rattle.table_read.specs.Params.{types_from}

@@ -21,7 +21,7 @@ use Rattle.commands.specs.Bounds.{arities, Within}
 use Rattle.commands.specs.Context.{params_of}
 use Rattle.commands.specs.Names.{Had}
 use Rattle.commands.specs.Decide.NamesDecide.{stepped}
-use Rattle.commands.specs.Laws.NumbersLaws.{number_accepts}
+use Rattle.commands.proofs.Laws.NumbersLaws.{number_accepts}
 use Rattle.commands.specs.ProgramWords.{program_words}
 use Rattle.verdict.specs.Verdict.{listed}
 use Rattle.table.specs.Table.{Record, struct_at}
@@ -29,7 +29,7 @@ use Rattle.machine.specs.Published.{StepCall.global, called, Sched, Sched.done, 
 use Rattle.machine.specs.Machine.{Instance, Machine, Moved, Moved.next, Moved.stuck, move, given, started}
 use Rattle.run.specs.Begin.{first_instances, begin}
 use Rattle.sound.specs.Invariant.{Open, Open.open_done, Open.open_start}
-use Rattle.sound.specs.Laws.ElemLaws.{at_map}
+use Rattle.sound.proofs.Laws.ElemLaws.{at_map}
 use Rattle.orders.specs.StepAnswer.{alone, step_machine}
 use Rattle.orders.specs.Laws.AloneLaws.{alone_accepted}
 use Rattle.orders.specs.Laws.StepAnswerLaws.{begin_moves, alone_firm, step_good}

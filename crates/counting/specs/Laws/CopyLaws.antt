@@ -2,8 +2,8 @@
 use Rattle.std.specs.Prelude.{ℕ, suc, ◌+◌, ◌-◌, ◌<◌, ◌≤◌, ◌≡◌, refl, List, [], ◌∷◌, ◌++◌, length, get_or, set, take, drop}
 use Rattle.std.proofs.Common.{arith, add-one, sym, ap, ◌∙◌, length-drop, length-take-le, take-suc}
 use Rattle.std.proofs.lemmas.List.Edits.{sets}
-use Rattle.types.specs.Laws.ListLaws.{sets_whole}
-use Rattle.types.specs.Laws.SetsLaws.{sets_append}
+use Rattle.types.proofs.Laws.ListLaws.{sets_whole}
+use Rattle.types.proofs.Laws.SetsLaws.{sets_append}
 
 pub copy_turn : (d : List ℕ) (at : ℕ) (s : List ℕ) (i : ℕ) → i < length s → set (sets d at (take i s)) (at + i) (get_or s i 0) ≡ sets d at (take (i + 1) s)
 copy_turn d at s i h =

@@ -11,8 +11,8 @@ use Rattle.machine.specs.Machine.{Instance, Machine, Out, Out.next, Out.refused,
 use Rattle.machine.specs.Performed.{Performed, Performed.pushed, Performed.pushed_this, Performed.negated, Performed.read_one, Performed.skipped}
 use Rattle.machine.specs.Performed.{Performed.wrote, Performed.calculated, Performed.exceeding, Performed.constructed, Performed.filled}
 use Rattle.machine.specs.Performed.{Performed.branched, Performed.no_way}
-use Rattle.machine.specs.Laws.PerformedLaws.{by_ways}
-use Rattle.sound.specs.Laws.Keeps.{Keeps, keeps_then, keeps_set, keeps_env, keeps_append}
+use Rattle.machine.proofs.Laws.PerformedLaws.{by_ways}
+use Rattle.sound.proofs.Laws.Keeps.{Keeps, keeps_then, keeps_set, keeps_env, keeps_append}
 use Rattle.counting.specs.Counting.{Truth}
 
 abbrev Kept : List Instance → Out → Type 0

@@ -14,15 +14,15 @@ use Rattle.commands.specs.Noted.{Note}
 use Rattle.machine.specs.Published.{lookup}
 use Rattle.machine.specs.Machine.{Instance, Machine, Out, Out.next, Out.refused, Out.stuck, acting, command_of, command_at, command}
 use Rattle.machine.specs.Measure.{codes}
-use Rattle.machine.specs.Laws.MeasureLaws.{command_shortens}
+use Rattle.machine.proofs.Laws.MeasureLaws.{command_shortens}
 use Rattle.run.specs.Holders.{holds_code}
-use Rattle.run.specs.Laws.TurnLaws.{none_listed, holders_length}
+use Rattle.run.proofs.Laws.TurnLaws.{none_listed, holders_length}
 use Rattle.sound.specs.Needs.{ValueAmong}
-use Rattle.sound.specs.Laws.Advance.{Kept as Keeping}
-use Rattle.sound.specs.Laws.CommandKept.{Refused, command_kept}
-use Rattle.sound.specs.Laws.EnvLaws.{param_holds}
-use Rattle.sound.specs.Laws.ElemLaws.{at_below, some_is}
-use Rattle.sound.specs.Laws.ValueLaws.{bool_value}
+use Rattle.sound.proofs.Laws.Advance.{Kept as Keeping}
+use Rattle.sound.proofs.Laws.CommandKept.{Refused, command_kept}
+use Rattle.sound.proofs.Laws.EnvLaws.{param_holds}
+use Rattle.sound.proofs.Laws.ElemLaws.{at_below, some_is}
+use Rattle.sound.proofs.Laws.ValueLaws.{bool_value}
 use Rattle.layout.specs.Layout.{variable, operand, holds}
 use Rattle.layout.specs.State.{State, of_cell, refused as refusing}
 use Rattle.memory.specs.Act.{act}

@@ -12,22 +12,22 @@ use Rattle.types.specs.Types.{Ty, Ty.int, Ty.nat, Ty.bool, Ty.ref}
 use Rattle.types.specs.Reflects.{Reflects, Reflects.holds, Reflects.fails, reflects_iff, reflects_map, reflects_negation, le_reflects, lt_reflects}
 use Rattle.types.specs.Orders.{NoneOf, Foremost, Tells.passes}
 use Rattle.types.specs.Stages.{Stage.went, Stages}
-use Rattle.types.specs.Laws.StageLaws.{stage_asked, stage_given, stage_on, stage_number, stage_none, stage_past, stage_refused}
+use Rattle.types.proofs.Laws.StageLaws.{stage_asked, stage_given, stage_on, stage_number, stage_none, stage_past, stage_refused}
 use Rattle.blocks.specs.Images.{stream}
 use Rattle.program.specs.Tree.{Step, Program}
 use Rattle.commands.specs.Decide.{member}
-use Rattle.commands.specs.Decide.DecideLaws.{member_reflects}
+use Rattle.commands.proofs.Decide.DecideLaws.{member_reflects}
 use Rattle.commands.specs.Decide.NamesDecide.{stepped}
 use Rattle.commands.specs.Names.{names_of_steps, Had}
 use Rattle.verdict.specs.Verdict.{listed}
 use Rattle.verdict.specs.ProgramInput.{Reads, AcceptedImage, reads_of}
-use Rattle.verdict.specs.ProgramInputLaws.{one_program}
+use Rattle.verdict.proofs.ProgramInputLaws.{one_program}
 use Rattle.table.specs.Table.{Record, struct_at}
 use Rattle.table.specs.TableReader.{table_of_stream}
-use Rattle.table.specs.Laws.TableLaws.{table_answer_exact}
+use Rattle.table.proofs.Laws.TableLaws.{table_answer_exact}
 use Rattle.run.specs.Entry.{Begun, begun, not_begun, run_list_by}
 use Rattle.run.specs.Input.{TableAccepted}
-use Rattle.run.specs.Laws.InputLaws.{tell_images}
+use Rattle.run.proofs.Laws.InputLaws.{tell_images}
 use Rattle.orders.specs.StepAnswer.{alone, step_state}
 use Rattle.orders.specs.Laws.StepAnswerLaws.{stepped_had}
 use Rattle.counts.specs.Counts.{Counts}

@@ -6,7 +6,7 @@ use Rattle.program.specs.Tree.{Items, Program}
 use Rattle.table.specs.Table.{Record}
 use Rattle.machine.specs.Published.{called, of_item, of_items, State}
 use Rattle.machine.specs.Measure.{codes, share, share_of}
-use Rattle.machine.specs.Laws.MeasureLaws.{moved_codes}
+use Rattle.machine.proofs.Laws.MeasureLaws.{moved_codes}
 use Rattle.run.specs.Begin.{first_instances, begin}
 use Rattle.orders.specs.StepAnswer.{scheduled, alone, step_state, step_machine}
 use Rattle.orders.specs.Laws.AloneLaws.{ordered_alike}

@@ -10,7 +10,7 @@ use Rattle.program.specs.Tree.{Program}
 use Rattle.commands.specs.Noted.{Note}
 use Rattle.machine.specs.Machine.{Instance, Machine, Out, Out.next, Out.refused, Out.stuck, command}
 use Rattle.machine.specs.Measure.{total, codes}
-use Rattle.machine.specs.Laws.MeasureLaws.{command_shortens}
+use Rattle.machine.proofs.Laws.MeasureLaws.{command_shortens}
 use Rattle.run.specs.Turns.{labels_from}
 use Rattle.run.specs.Holders.{holds_code, flags}
 use Rattle.counts.specs.Numbers.{sum}

@@ -12,14 +12,14 @@ use Rattle.machine.specs.Published.{State, State.state}
 use Rattle.machine.specs.Rules.{Actor.instance, Rule}
 use Rattle.machine.specs.Machine.{Instance, Machine, Out, Out.next, Out.refused, Out.stuck, command}
 use Rattle.machine.specs.Represents.{Represents}
-use Rattle.machine.specs.Laws.RepresentsLaws.{Still, still_done}
-use Rattle.machine.specs.Laws.PerformedLaws.{by_ways}
-use Rattle.machine.specs.Laws.CommandAgrees.{command_complete, command_full, command_exceeded}
+use Rattle.machine.proofs.Laws.RepresentsLaws.{Still, still_done}
+use Rattle.machine.proofs.Laws.PerformedLaws.{by_ways}
+use Rattle.machine.proofs.Laws.CommandAgrees.{command_complete, command_full, command_exceeded}
 use Rattle.run.specs.Turns.{labels_from}
 use Rattle.run.specs.Holders.{holds_code, flag, flags}
 use Rattle.run.specs.Runs.{Due}
-use Rattle.run.specs.Laws.TurnLaws.{labels_none, map_at}
-use Rattle.sound.specs.Laws.ElemLaws.{none_some, some_is}
+use Rattle.run.proofs.Laws.TurnLaws.{labels_none, map_at}
+use Rattle.sound.proofs.Laws.ElemLaws.{none_some, some_is}
 use Rattle.orders.specs.Orders.{Refused}
 use Rattle.counts.specs.Numbers.{Distinct}
 use Rattle.counts.specs.Tally.{holding}

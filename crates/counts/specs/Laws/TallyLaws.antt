@@ -14,14 +14,14 @@ use Rattle.machine.specs.Published.{lookup, State, State.state}
 use Rattle.machine.specs.Rules.{Actor.instance, Rule}
 use Rattle.machine.specs.Machine.{Instance, Machine, Out, Out.next, Out.refused, Out.stuck, command}
 use Rattle.machine.specs.Measure.{codes}
-use Rattle.machine.specs.Laws.MeasureLaws.{command_shortens}
+use Rattle.machine.proofs.Laws.MeasureLaws.{command_shortens}
 use Rattle.machine.specs.Represents.{values, Represents}
-use Rattle.machine.specs.Laws.RepresentsLaws.{instance_at, inst_at}
-use Rattle.machine.specs.Laws.CommandAgrees.{command_follows, command_complete, command_full, command_exceeded, command_numbers, command_stuck}
-use Rattle.machine.specs.Laws.RuleUnique.{rule_unique, rule_not_full, rule_not_exceeded}
+use Rattle.machine.proofs.Laws.RepresentsLaws.{instance_at, inst_at}
+use Rattle.machine.proofs.Laws.CommandAgrees.{command_follows, command_complete, command_full, command_exceeded, command_numbers, command_stuck}
+use Rattle.machine.proofs.Laws.RuleUnique.{rule_unique, rule_not_full, rule_not_exceeded}
 use Rattle.run.specs.Holders.{flags}
 use Rattle.run.specs.Runs.{Due}
-use Rattle.sound.specs.Laws.ElemLaws.{none_some, some_is}
+use Rattle.sound.proofs.Laws.ElemLaws.{none_some, some_is}
 use Rattle.orders.specs.Orders.{Ordered, Ordered.no_turn, Ordered.a_turn, Refused}
 use Rattle.counts.specs.Numbers.{Distinct, Number}
 use Rattle.counts.specs.Counts.{Is, Ends, Stops, Counts}

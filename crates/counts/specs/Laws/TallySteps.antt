@@ -6,7 +6,7 @@ use Rattle.std.specs.Prelude.{◌≡◌, refl, List, [], ◌∷◌}
 use Rattle.program.specs.Tree.{Program}
 use Rattle.machine.specs.Machine.{Machine, Out, Out.next, Out.refused, Out.stuck, command}
 use Rattle.machine.specs.Measure.{codes}
-use Rattle.machine.specs.Laws.MeasureLaws.{command_shortens}
+use Rattle.machine.proofs.Laws.MeasureLaws.{command_shortens}
 use Rattle.counts.specs.Numbers.{sum}
 use Rattle.counts.specs.Tally.{Kind, value_at, at_rest, after, holding, tally_by, tally_with, tally}
 

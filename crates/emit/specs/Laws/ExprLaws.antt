@@ -6,7 +6,7 @@ use Rattle.program.specs.Tree.{Expr, Expr.inv, Expr.make, Expr.path, Expr.op, Ex
 use Rattle.program.specs.Reader.{Result, Result.ok, Result.bad, wrong_byte, byte, ranged, lookup, Form, Form.form_inv, Form.form_make, Form.form_path}
 use Rattle.program.specs.Reader.{Form.form_int, Form.form_nat, Form.form_bool, Form.form_null, Form.form_self, Form.form_op, Form.form_none, form}
 use Rattle.program.specs.Reader.{read_path, read_make, rule_expr, read_expr}
-use Rattle.program.specs.Laws.ExprLaws.{Opens, opens}
+use Rattle.program.proofs.Laws.ExprLaws.{Opens, opens}
 use Rattle.commands.specs.Coding.{coded}
 use Rattle.emit.specs.declared.Put.{Put}
 use Rattle.emit.specs.Written.{Good, Ready, Wrote, expr_words, args_words, make_words, path_words, args_at, make_at}

@@ -6,7 +6,7 @@ use Rattle.std.proofs.Math.Path.{refl}
 use Rattle.little_endian.specs.Numbers.{word_at}
 use Rattle.types.specs.Limits.{nat_end, int_half}
 use Rattle.types.specs.Types.{Ty, code}
-use Rattle.types.specs.Laws.TypeLaws.{type_of_code}
+use Rattle.types.proofs.Laws.TypeLaws.{type_of_code}
 use Rattle.types.specs.Values.{int_word, word_int, word, value_of}
 use Rattle.program.specs.Tree.{Expr, Expr.int_lit, Expr.nat_lit, Expr.bool_lit, Expr.null, Expr.self}
 use Rattle.program.specs.Encoding.{enc_word}
@@ -14,9 +14,9 @@ use Rattle.program.specs.Reader.{Result.ok, Result.bad, wrong_byte, made, Form, 
 use Rattle.program.specs.Reader.{Form.form_nat, Form.form_bool, Form.form_null, Form.form_self, Form.form_op, Form.form_none, form, bool_end}
 use Rattle.program.specs.Reader.{word_bytes, ranged, read_word, read_type, rule_expr, read_expr}
 use Rattle.program.specs.Exact.{Stands, Stands.done, Stands.letter}
-use Rattle.program.specs.Laws.PartLaws.{told_is, made_ok}
-use Rattle.program.specs.Laws.ExprLaws.{Opens, opens, op_range}
-use Rattle.program.specs.Laws.WordLaws.{word_exact, type_exact}
+use Rattle.program.proofs.Laws.PartLaws.{told_is, made_ok}
+use Rattle.program.proofs.Laws.ExprLaws.{Opens, opens, op_range}
+use Rattle.program.proofs.Laws.WordLaws.{word_exact, type_exact}
 use Rattle.commands.specs.Commands.{expr_coms, flatten}
 use Rattle.commands.specs.Coding.{coded, com_word, command_word, words}
 use Rattle.emit.specs.Written.{Good, next_of, code_of, expr_words}

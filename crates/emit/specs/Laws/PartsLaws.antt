@@ -2,7 +2,7 @@
 use Rattle.std.specs.Prelude.{ℕ, ◌+◌, ◌-◌, ◌≤◌, ◌≡◌, refl, List, [], ◌∷◌, ◌++◌, length, set}
 use Rattle.std.proofs.Common.{arith, sym, ap, ◌∙◌, append-nil, length-append}
 use Rattle.program.specs.Reader.{Result, Result.ok, pair, made, many}
-use Rattle.program.specs.Laws.PartLaws.{made_ok}
+use Rattle.program.proofs.Laws.PartLaws.{made_ok}
 use Rattle.emit.specs.declared.Put.{Put}
 use Rattle.emit.specs.Written.{Good, next_of, code_of, Ready, Placed, Wrote}
 use Rattle.emit.specs.Laws.WrittenLaws.{placed_none, placed_kept, placed_as, placed_on, placed_last}

@@ -5,9 +5,9 @@ use Rattle.program.specs.Tree.{Var}
 use Rattle.program.specs.Encoding.{enc_path}
 use Rattle.program.specs.Reader.{Result.ok, read_path}
 use Rattle.program.specs.Exact.{Stands, Stands.letter}
-use Rattle.program.specs.Laws.StandsLaws.{stands_length, stands_in}
-use Rattle.program.specs.Laws.PartLaws.{told_is}
-use Rattle.program.specs.Laws.WordLaws.{path_exact}
+use Rattle.program.proofs.Laws.StandsLaws.{stands_length, stands_in}
+use Rattle.program.proofs.Laws.PartLaws.{told_is}
+use Rattle.program.proofs.Laws.WordLaws.{path_exact}
 use Rattle.commands.specs.Coding.{coded}
 use Rattle.emit.specs.declared.Put.{Put}
 use Rattle.emit.specs.Written.{Good, next_of, code_of, path_words, target_words, Ready, Placed, Wrote}

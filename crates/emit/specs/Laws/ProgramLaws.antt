@@ -7,7 +7,7 @@ use Rattle.types.specs.Types.{Ty}
 use Rattle.program.specs.Tree.{Items, Step, Program}
 use Rattle.program.specs.Reader.{Result, Result.ok, Result.bad, wrong_end, pair, many, ended, whole, read_params, read_steps, read_items, read_item}
 use Rattle.program.specs.Reader.{read_program, read}
-use Rattle.program.specs.Laws.PartLaws.{made_ok}
+use Rattle.program.proofs.Laws.PartLaws.{made_ok}
 use Rattle.commands.specs.Bounds.{arities}
 use Rattle.emit.specs.Written.{structs_at}
 use Rattle.emit.specs.Laws.ReadLaws.{then_value, made_value, pair_value, pair_ok}

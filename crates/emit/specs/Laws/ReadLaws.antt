@@ -3,8 +3,8 @@ use Rattle.std.specs.Prelude.{ℕ, zero, suc, ◌+◌, ◌-◌, ◌<◌, ◌≡�
 use Rattle.std.proofs.Common.{sub-one, ◌∙◌, ltb-true}
 use Rattle.program.specs.Reader.{Result, Result.ok, Result.bad, wrong_end, then, pair, made, many, byte, ranged, counted, opened}
 use Rattle.program.specs.Exact.{Stands, Stands.done, Stands.letter}
-use Rattle.program.specs.Laws.PartLaws.{told_is, then_ok}
-use Rattle.program.specs.Laws.JoinLaws.{Within, ranged_exact}
+use Rattle.program.proofs.Laws.PartLaws.{told_is, then_ok}
+use Rattle.program.proofs.Laws.JoinLaws.{Within, ranged_exact}
 use Rattle.emit.specs.Written.{Good}
 
 -- the value that a reader gave

@@ -4,7 +4,7 @@ use Rattle.std.proofs.Common.{sym, ◌∙◌, append-nil}
 use Rattle.types.specs.Limits.{step_names, if_levels}
 use Rattle.program.specs.Tree.{Stmts}
 use Rattle.program.specs.Reader.{Result.ok, pair, ranged, read_body, read_stmt, read_step}
-use Rattle.program.specs.Laws.PartLaws.{made_ok}
+use Rattle.program.proofs.Laws.PartLaws.{made_ok}
 use Rattle.commands.specs.ProgramWords.{step_words}
 use Rattle.emit.specs.Written.{Good, body_words, body_at}
 use Rattle.emit.specs.Laws.ReadLaws.{made_value, pair_value, pair_ok, ranged_value}

@@ -13,9 +13,9 @@ use Rattle.program.specs.Tree.{Expr, Stmt, Stmt.when, Stmt.declare, Stmt.update,
 use Rattle.program.specs.Reader.{Result, Result.ok, Result.bad, wrong_byte, then, pair, made, lookup, Kind, Kind.kind_when, Kind.kind_declare}
 use Rattle.program.specs.Reader.{Kind.kind_update, Kind.kind_create, Kind.kind_none, kind, read_type, read_local, read_path, read_expr, read_body}
 use Rattle.program.specs.Reader.{read_when, read_declare, read_update, rule_stmt, read_stmt}
-use Rattle.program.specs.Laws.PartLaws.{told_is}
-use Rattle.program.specs.Laws.WordLaws.{type_exact, local_exact}
-use Rattle.program.specs.Laws.StmtLaws.{OpensStmt, opens_stmt}
+use Rattle.program.proofs.Laws.PartLaws.{told_is}
+use Rattle.program.proofs.Laws.WordLaws.{type_exact, local_exact}
+use Rattle.program.proofs.Laws.StmtLaws.{OpensStmt, opens_stmt}
 use Rattle.commands.specs.Coding.{coded}
 use Rattle.emit.specs.declared.Put.{Put}
 use Rattle.emit.specs.Written.{Good, next_of, code_of, Ready, Wrote, expr_words, make_words, target_words, stmt_words, body_words, when_words}

@@ -8,9 +8,9 @@ use Rattle.program.specs.Tree.{Stmt.update, Stmt.create, Stmts, Stmts.end, Stmts
 use Rattle.program.specs.Encoding.{op_code, var_code}
 use Rattle.program.specs.Exact.{Stands, Stands.done, Stands.letter}
 use Rattle.commands.specs.Commands.{Coms, then, reads, front, last, expr_coms, args_coms, update_coms, stmt_coms, body_coms, flatten, commands}
-use Rattle.commands.specs.Laws.CommandLaws.{flatten_then}
+use Rattle.commands.proofs.Laws.CommandLaws.{flatten_then}
 use Rattle.commands.specs.Coding.{coded, com_word, command_word, words}
-use Rattle.commands.specs.ProgramWordsLaws.{words_append, words_length}
+use Rattle.commands.proofs.ProgramWordsLaws.{words_append, words_length}
 use Rattle.emit.specs.Written.{coms_words, expr_words, args_words, make_words, path_words, target_words, stmt_words, body_words, when_words}
 use Rattle.emit.specs.Written.{block_words, declare_words, update_words}
 use Rattle.emit.specs.Leaf.{rd_words}

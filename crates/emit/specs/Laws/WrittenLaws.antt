@@ -4,7 +4,7 @@ use Rattle.std.proofs.Common.{arith, add-one, sym, ap, ◌∙◌, length-append}
 use Rattle.std.proofs.lemmas.List.Edits.{sets}
 use Rattle.std.proofs.Math.Seq.{length-sets}
 use Rattle.std.proofs.lemmas.List.{set_comm}
-pub use Rattle.types.specs.Laws.SetsLaws.{sets_append}
+pub use Rattle.types.proofs.Laws.SetsLaws.{sets_append}
 use Rattle.emit.specs.declared.Put.{Put}
 use Rattle.emit.specs.Written.{Placed}
 

@@ -4,7 +4,7 @@ use native.Mathlib.Omega.{arith}
 use mathlib.Core.List.{[], ◌∷◌}
 use Rattle.program.specs.Reader.{read_step}
 use Rattle.commands.specs.ProgramWords.{step_words, steps_words}
-use Rattle.commands.specs.ProgramWordsLaws.{no_steps, more_steps}
+use Rattle.commands.proofs.ProgramWordsLaws.{no_steps, more_steps}
 use Rattle.emit.specs.Written.{steps_at}
 use Rattle.emit.specs.Parts.{Rest}
 use Rattle.emit.specs.Laws.PartsLaws.{part_ready, part_same, rest_all, rest_ready, rest_next, rest_none}

@@ -5,7 +5,7 @@ use mathlib.Core.List.{[], ◌∷◌}
 use lib.ListN.{length}
 use Rattle.program.specs.Reader.{read_steps}
 use Rattle.commands.specs.ProgramWords.{steps_words, structs_words}
-use Rattle.commands.specs.ProgramWordsLaws.{no_structs, more_structs}
+use Rattle.commands.proofs.ProgramWordsLaws.{no_structs, more_structs}
 use Rattle.emit.specs.Written.{structs_at}
 use Rattle.emit.specs.Parts.{Rest}
 use Rattle.emit.specs.Laws.PartsLaws.{rest_all, rest_ready, rest_next, rest_none}

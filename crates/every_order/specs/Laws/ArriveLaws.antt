@@ -5,7 +5,7 @@ use Rattle.program.specs.Tree.{Program}
 use Rattle.machine.specs.Published.{State}
 use Rattle.machine.specs.Rules.{Actor.instance, Actor.schedule, Rule}
 use Rattle.machine.specs.Machine.{Machine}
-use Rattle.machine.specs.Laws.RuleUnique.{rule_unique}
+use Rattle.machine.proofs.Laws.RuleUnique.{rule_unique}
 use Rattle.run.specs.Runs.{Due}
 use Rattle.run.specs.Steps.{Steps.here, Steps.silent, Steps.reads}
 use Rattle.counts.specs.Numbers.{Number}

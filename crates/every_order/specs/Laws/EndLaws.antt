@@ -7,7 +7,7 @@ use Rattle.machine.specs.Rules.{Actor.instance, Actor.schedule, Rule}
 use Rattle.machine.specs.Stops.{ended}
 use Rattle.machine.specs.Machine.{Machine, Out.refused, command}
 use Rattle.machine.specs.Represents.{Represents}
-use Rattle.machine.specs.Laws.RuleUnique.{rule_unique}
+use Rattle.machine.proofs.Laws.RuleUnique.{rule_unique}
 use Rattle.run.specs.Runs.{Due}
 use Rattle.run.specs.Steps.{Steps.here, Steps.silent, Steps.reads}
 use Rattle.counts.specs.Numbers.{Number}

@@ -3,16 +3,16 @@ use Rattle.std.specs.Prelude.{ℕ, ◌≡◌, refl, Bool, true, false, ◌↔◌
 use Rattle.std.proofs.Common.{arith, sym, ap, subst, ◌∙◌}
 use Rattle.std.proofs.Math.Option.{Option, none, some}
 use Rattle.types.specs.Reflects.{Reflects, Reflects.holds, Reflects.fails, reflects_iff, reflects_map, reflects_both, eq_reflects}
-use Rattle.types.specs.Laws.TypeLaws.{type_of_code}
+use Rattle.types.proofs.Laws.TypeLaws.{type_of_code}
 use Rattle.types.specs.Values.{Val}
 use Rattle.program.specs.Tree.{Program}
 use Rattle.commands.specs.Commands.{Com.push, Com.push_this, Com.rd, Com.wr, Com.cons, Com.not, Com.oper, Flat, Flat.plain, Flat.if_n, flatten}
-use Rattle.operators.specs.Laws.WordLaws.{op_of_code}
+use Rattle.operators.proofs.Laws.WordLaws.{op_of_code}
 use Rattle.machine.specs.Published.{StepCall, StepCall.global, StepCall.local, Sched, Sched.done, Sched.start, Sched.fixpoint, Sched.active, Env}
 use Rattle.machine.specs.Published.{Env.env, Inst, Inst.inst, State, State.state}
 use Rattle.machine.specs.Machine.{Instance, Machine}
 use Rattle.machine.specs.Represents.{RepresentsInst, RepresentsAll, Represents}
-use Rattle.machine.specs.Laws.RepresentsLaws.{represents_unique}
+use Rattle.machine.proofs.Laws.RepresentsLaws.{represents_unique}
 use Rattle.counts.specs.Numbers.{Number}
 use Rattle.every_order.specs.Watch.{Watch}
 use Rattle.every_order.specs.Weighted.{Weighted, weighted_sum, indicator}

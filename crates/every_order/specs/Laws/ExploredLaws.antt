@@ -8,7 +8,7 @@ use Rattle.machine.specs.Published.{State}
 use Rattle.machine.specs.Machine.{Machine}
 use Rattle.machine.specs.Represents.{Represents}
 use Rattle.run.specs.Begin.{table_of}
-use Rattle.run.specs.Laws.OutcomeLaws.{table_represents}
+use Rattle.run.proofs.Laws.OutcomeLaws.{table_represents}
 use Rattle.counts.specs.Numbers.{Number}
 use Rattle.counts.specs.Laws.NumberLaws.{number_same}
 use Rattle.every_order.specs.Watch.{Watch}

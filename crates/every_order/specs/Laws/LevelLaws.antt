@@ -13,7 +13,7 @@ use Rattle.machine.specs.Published.{State}
 use Rattle.machine.specs.Machine.{Machine}
 use Rattle.machine.specs.Represents.{Represents}
 use Rattle.run.specs.Runs.{Due}
-use Rattle.run.specs.Laws.FuelLaws.{fuel_settles}
+use Rattle.run.proofs.Laws.FuelLaws.{fuel_settles}
 use Rattle.counts.specs.Numbers.{Distinct, Number}
 use Rattle.counts.specs.Laws.NumberLaws.{number_one, number_same, fewer}
 use Rattle.every_order.specs.Watch.{Watch, over, records_of}

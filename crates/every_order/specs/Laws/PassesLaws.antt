@@ -5,10 +5,10 @@ use Rattle.std.proofs.Math.Option.{Option, none, some}
 use Rattle.program.specs.Tree.{Program}
 use Rattle.machine.specs.Published.{State}
 use Rattle.machine.specs.Rules.{Actor.instance, Actor.schedule}
-use Rattle.machine.specs.Laws.RuleUnique.{rule_unique}
+use Rattle.machine.proofs.Laws.RuleUnique.{rule_unique}
 use Rattle.run.specs.Runs.{Config, Config.config, Halts, picked, Step, Step.moves as byte_moves, Step.takes as byte_takes}
 use Rattle.run.specs.Steps.{Steps, Steps.here, Steps.silent, Steps.reads}
-use Rattle.run.specs.Laws.HaltLaws.{halted_moves as run_halted_moves, halted_takes as run_halted_takes}
+use Rattle.run.proofs.Laws.HaltLaws.{halted_moves as run_halted_moves, halted_takes as run_halted_takes}
 use Rattle.every_order.specs.RunOrders.{LabelStep, LabelStep.moves, LabelStep.takes, OrderHalts, PassesThrough}
 use Rattle.every_order.specs.Laws.StepwiseLaws.{halted_moves, halted_takes}
 

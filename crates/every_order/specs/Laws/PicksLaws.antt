@@ -7,11 +7,11 @@ use Rattle.machine.specs.Rules.{Actor.instance, Rule}
 use Rattle.machine.specs.Stops.{Full, Exceeded, out_of_turns}
 use Rattle.machine.specs.Machine.{Machine, machine}
 use Rattle.machine.specs.Represents.{Represents}
-use Rattle.machine.specs.Laws.RuleUnique.{represented}
+use Rattle.machine.proofs.Laws.RuleUnique.{represented}
 use Rattle.run.specs.Runs.{Config, Config.config, picked, Halts, Halts.at_end, Halts.at_33, Halts.at_34, Halts.at_35, Step, Step.moves, Step.takes, Runs}
 use Rattle.run.specs.Steps.{Steps, Steps.here, Steps.silent, Steps.reads}
-use Rattle.run.specs.Laws.RunAgrees.{picked_same}
-use Rattle.run.specs.Laws.TurnLaws.{holder_chosen}
+use Rattle.run.proofs.Laws.RunAgrees.{picked_same}
+use Rattle.run.proofs.Laws.TurnLaws.{holder_chosen}
 use Rattle.counts.specs.Laws.HoldingLaws.{Holds, rule_holds, refused_holds}
 use Rattle.every_order.specs.Watch.{Watch}
 use Rattle.every_order.specs.RunOrders.{LabelStep, LabelStep.moves as label_moves, LabelStep.takes as label_takes, OrderHalts}

@@ -11,14 +11,14 @@ use Rattle.program.specs.Counts.{All}
 use Rattle.machine.specs.Published.{State}
 use Rattle.machine.specs.Machine.{Machine, Out, Out.next, Out.refused, Out.stuck, command}
 use Rattle.machine.specs.Represents.{Represents}
-use Rattle.machine.specs.Laws.CommandAgrees.{command_follows}
-use Rattle.machine.specs.Laws.MoveAgrees.{move_follows}
+use Rattle.machine.proofs.Laws.CommandAgrees.{command_follows}
+use Rattle.machine.proofs.Laws.MoveAgrees.{move_follows}
 use Rattle.run.specs.Runs.{Due}
 use Rattle.run.specs.Run.{Outcome.stopped, Outcome.jammed, Settled, Settled.hold, Settled.stop, settle, fuel}
-use Rattle.run.specs.Laws.Settles.{Settles, Settles.holds, Settles.ends, Settles.sticks, Settles.moves}
-use Rattle.run.specs.Laws.FuelLaws.{fuel_settles}
-use Rattle.run.specs.Laws.RunAgrees.{none_due}
-use Rattle.run.specs.Laws.TurnLaws.{due_still}
+use Rattle.run.proofs.Laws.Settles.{Settles, Settles.holds, Settles.ends, Settles.sticks, Settles.moves}
+use Rattle.run.proofs.Laws.FuelLaws.{fuel_settles}
+use Rattle.run.proofs.Laws.RunAgrees.{none_due}
+use Rattle.run.proofs.Laws.TurnLaws.{due_still}
 use Rattle.counts.specs.Tally.{holding}
 use Rattle.every_order.specs.Watch.{Watch, over, records_of}
 use Rattle.every_order.specs.Weighted.{Weighted, weighted}

@@ -9,9 +9,9 @@ use Rattle.machine.specs.Rules.{Actor.instance, Actor.schedule, Rule}
 use Rattle.machine.specs.Stops.{Full, Exceeded, full, exceeded, ended}
 use Rattle.machine.specs.Machine.{Machine, Moved.stuck, Out.refused, command, move_by, move}
 use Rattle.machine.specs.Represents.{Represents}
-use Rattle.machine.specs.Laws.CommandAgrees.{command_full, command_exceeded, command_numbers}
-use Rattle.machine.specs.Laws.MoveAgrees.{move_complete}
-use Rattle.machine.specs.Laws.RuleUnique.{represented, rule_not_full, rule_not_exceeded}
+use Rattle.machine.proofs.Laws.CommandAgrees.{command_full, command_exceeded, command_numbers}
+use Rattle.machine.proofs.Laws.MoveAgrees.{move_complete}
+use Rattle.machine.proofs.Laws.RuleUnique.{represented, rule_not_full, rule_not_exceeded}
 use Rattle.run.specs.Runs.{Due}
 use Rattle.run.specs.Steps.{Steps, Steps.here, Steps.silent, Steps.reads}
 use Rattle.counts.specs.Numbers.{Number}

@@ -6,7 +6,7 @@ use mathlib.Core.List.{List, [], ◌∷◌}
 use Rattle.types.specs.Reflects.{Reflects, Reflects.holds, Reflects.fails, reflects_map, reflects_both, eq_reflects}
 use Rattle.types.specs.Values.{Val}
 use Rattle.operators.specs.Apply.{same_bool, same_val}
-use Rattle.operators.specs.Laws.TestLaws.{same_val_exact}
+use Rattle.operators.proofs.Laws.TestLaws.{same_val_exact}
 use Rattle.table.specs.Table.{Record}
 use Rattle.every_order.specs.RunOrders.{Result}
 use Rattle.every_order.specs.Lines.{same_list, same_record, same_result}

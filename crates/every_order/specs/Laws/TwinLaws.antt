@@ -15,12 +15,12 @@ use Rattle.run.specs.Holders.{holds_code, flag, flags, holders, due}
 use Rattle.run.specs.Begin.{table_of}
 use Rattle.run.specs.Visits.{Acts, Acts.moves as acts_move, Acts.takes as acts_take}
 use Rattle.run.specs.Run.{Outcome.stopped, Outcome.jammed, Settled, Settled.hold, Settled.stop, settle, fuel}
-use Rattle.run.specs.Laws.Settles.{Settles, Settles.holds, Settles.ends, Settles.sticks, Settles.moves}
-use Rattle.run.specs.Laws.FuelLaws.{fuel_settles, settled}
-use Rattle.run.specs.Laws.TurnLaws.{at_map, due_none, holder_chosen}
+use Rattle.run.proofs.Laws.Settles.{Settles, Settles.holds, Settles.ends, Settles.sticks, Settles.moves}
+use Rattle.run.proofs.Laws.FuelLaws.{fuel_settles, settled}
+use Rattle.run.proofs.Laws.TurnLaws.{at_map, due_none, holder_chosen}
 use Rattle.sound.specs.Firm.{Firm}
 use Rattle.sound.specs.Invariant.{Good}
-use Rattle.sound.specs.Laws.NeverStuckLaws.{acts_good}
+use Rattle.sound.proofs.Laws.NeverStuckLaws.{acts_good}
 use Rattle.paused.specs.Alike.{Alike}
 use Rattle.paused.specs.Laws.AlikeLists.{alike_flags}
 use Rattle.paused.specs.Laws.AlikeCommands.{AlikeOut, AlikeOut.nexts, AlikeOut.refusals, command_alike}

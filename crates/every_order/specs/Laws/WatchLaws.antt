@@ -9,7 +9,7 @@ use Rattle.machine.specs.Machine.{Machine}
 use Rattle.machine.specs.Represents.{Represents}
 use Rattle.run.specs.Begin.{table_of}
 use Rattle.run.specs.Comes.{to_record, table_in}
-use Rattle.run.specs.Laws.OutcomeLaws.{table_represents}
+use Rattle.run.proofs.Laws.OutcomeLaws.{table_represents}
 use Rattle.paused.specs.Alike.{Alike}
 use Rattle.paused.specs.Laws.AlikeRuns.{table_alike}
 use Rattle.every_order.specs.Watch.{records_in, records_of}

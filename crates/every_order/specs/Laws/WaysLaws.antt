@@ -11,15 +11,15 @@ use Rattle.machine.specs.Rules.{Actor.instance, Actor.schedule, Rule}
 use Rattle.machine.specs.Stops.{ended}
 use Rattle.machine.specs.Machine.{Machine, Out, Out.next, Out.refused, Out.stuck, command}
 use Rattle.machine.specs.Represents.{Represents}
-use Rattle.machine.specs.Laws.CommandAgrees.{command_follows, command_stuck}
-use Rattle.machine.specs.Laws.MoveAgrees.{move_follows, move_stuck}
+use Rattle.machine.proofs.Laws.CommandAgrees.{command_follows, command_stuck}
+use Rattle.machine.proofs.Laws.MoveAgrees.{move_follows, move_stuck}
 use Rattle.run.specs.Holders.{flags}
 use Rattle.run.specs.Runs.{Due}
 use Rattle.run.specs.Run.{Settled}
-use Rattle.run.specs.Laws.Settles.{Settles, Settles.holds, Settles.ends, Settles.sticks, Settles.moves}
-use Rattle.run.specs.Laws.FuelLaws.{fuel_settles}
-use Rattle.run.specs.Laws.RunAgrees.{due_same, none_due}
-use Rattle.run.specs.Laws.TurnLaws.{due_still}
+use Rattle.run.proofs.Laws.Settles.{Settles, Settles.holds, Settles.ends, Settles.sticks, Settles.moves}
+use Rattle.run.proofs.Laws.FuelLaws.{fuel_settles}
+use Rattle.run.proofs.Laws.RunAgrees.{due_same, none_due}
+use Rattle.run.proofs.Laws.TurnLaws.{due_still}
 use Rattle.orders.specs.Orders.{Refused}
 use Rattle.counts.specs.Numbers.{Number, sum}
 use Rattle.counts.specs.Laws.NumberLaws.{number_same, number_none, Begins, number_begins}

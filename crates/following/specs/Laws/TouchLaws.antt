@@ -14,7 +14,7 @@ use Rattle.commands.specs.Context.{params_of}
 use Rattle.commands.specs.Noted.{Note, Note.n_push, Note.n_this, Note.n_not, Note.n_rd, Note.n_wr, Note.n_get, Note.n_set, Note.n_cons, Note.n_op, Note.n_if}
 use Rattle.machine.specs.Machine.{Tagged, Instance, Machine}
 use Rattle.sound.specs.Needs.{Needs}
-use Rattle.sound.specs.Laws.ValueLaws.{label_value}
+use Rattle.sound.proofs.Laws.ValueLaws.{label_value}
 use Rattle.layout.specs.Layout.{head, struct_of, height_of, next_of, operand}
 use Rattle.layout.specs.State.{State, state_of, of_head}
 use Rattle.memory.specs.Act.{top, next_word}

@@ -8,9 +8,9 @@ use Rattle.types.specs.Limits.{max_instances, nat_end}
 use Rattle.program.specs.Tree.{Program}
 use Rattle.machine.specs.Machine.{Machine, Out, Out.next, Out.refused, Out.stuck, command}
 use Rattle.machine.specs.Measure.{codes}
-use Rattle.machine.specs.Laws.MeasureLaws.{command_shortens}
+use Rattle.machine.proofs.Laws.MeasureLaws.{command_shortens}
 use Rattle.run.specs.Holders.{due}
-use Rattle.sound.specs.Laws.HolderLaws.{chosen_holds}
+use Rattle.sound.proofs.Laws.HolderLaws.{chosen_holds}
 use Rattle.layout.specs.Layout.{head, head_size, head_end, end_of}
 use Rattle.layout.specs.State.{State, state_of, due_in}
 use Rattle.memory.specs.Act.{act}

@@ -6,14 +6,14 @@ use Rattle.std.proofs.Math.ListN.{get_elem?}
 use Rattle.program.specs.Tree.{Program}
 use Rattle.commands.specs.Noted.{Note}
 use Rattle.machine.specs.Machine.{Instance, Machine, Out, Out.next, Out.refused, Out.stuck, command}
-use Rattle.machine.specs.Laws.PerformedLaws.{by_ways}
+use Rattle.machine.proofs.Laws.PerformedLaws.{by_ways}
 use Rattle.run.specs.Turns.{labels_from}
 use Rattle.run.specs.Holders.{flag, flags, holders, holds_code}
-use Rattle.run.specs.Laws.TurnLaws.{holders_length}
-use Rattle.sound.specs.Laws.ElemLaws.{none_some}
+use Rattle.run.proofs.Laws.TurnLaws.{holders_length}
+use Rattle.sound.proofs.Laws.ElemLaws.{none_some}
 use Rattle.layout.specs.State.{bit}
 use Rattle.memory.specs.Choose.{fewer}
-use Rattle.sound.specs.Laws.FlagLaws.{Idle, Flagged, flags_behind}
+use Rattle.sound.proofs.Laws.FlagLaws.{Idle, Flagged, flags_behind}
 
 -- how many are true
 abbrev trues : List Bool → ℕ

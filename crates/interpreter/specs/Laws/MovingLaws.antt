@@ -8,7 +8,7 @@ use Rattle.std.proofs.Math.ListN.{length}
 use Rattle.machine.specs.Published.{Sched, Sched.done, Sched.start, Sched.fixpoint, Sched.active}
 use Rattle.machine.specs.Machine.{Instance, Machine, machine}
 use Rattle.sound.specs.Invariant.{Open}
-use Rattle.sound.specs.Laws.MoveKept.{active_open}
+use Rattle.sound.proofs.Laws.MoveKept.{active_open}
 use Rattle.layout.specs.State.{State}
 use Rattle.memory.specs.Stands.{bits, Stands}
 use Rattle.memory.specs.Plan.{start_code, At}

@@ -7,8 +7,8 @@ use Rattle.std.proofs.lemmas.Bool.{eqb-false}
 use Rattle.program.specs.Tree.{Program}
 use Rattle.machine.specs.Machine.{Instance, Machine, Out.next, command}
 use Rattle.run.specs.Holders.{flag, flags}
-use Rattle.sound.specs.Laws.ElemLaws.{at_below}
-use Rattle.sound.specs.Laws.FlagLaws.{Idle, flags_behind}
+use Rattle.sound.proofs.Laws.ElemLaws.{at_below}
+use Rattle.sound.proofs.Laws.FlagLaws.{Idle, flags_behind}
 use Rattle.layout.specs.Layout.{holds}
 use Rattle.layout.specs.State.{State}
 use Rattle.memory.specs.Laws.ChooseStands.{holds_same}

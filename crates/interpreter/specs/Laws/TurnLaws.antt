@@ -8,19 +8,19 @@ use Rattle.machine.specs.Published.{Sched.done, structs}
 use Rattle.machine.specs.Machine.{Instance, Machine, Out, Out.next, Out.refused, Out.stuck, Moved, Moved.next, Moved.stuck, command, move}
 use Rattle.run.specs.Turns.{chosen}
 use Rattle.run.specs.Holders.{holders, holds_code, none_of, due}
-use Rattle.machine.specs.Laws.FromLaws.{command_from, move_from as machine_move_from}
+use Rattle.machine.proofs.Laws.FromLaws.{command_from, move_from as machine_move_from}
 use Rattle.machine.specs.Stops.{ended, out_of_turns}
 use Rattle.run.specs.Run.{Outcome.stopped, run}
-use Rattle.run.specs.Laws.Settles.{Rests.ends as rests_ends, Rests.lasts as rests_lasts, Rests.fails as rests_fails}
-use Rattle.run.specs.Laws.FuelLaws.{rests_run}
+use Rattle.run.proofs.Laws.Settles.{Rests.ends as rests_ends, Rests.lasts as rests_lasts, Rests.fails as rests_fails}
+use Rattle.run.proofs.Laws.FuelLaws.{rests_run}
 use Rattle.run.specs.Steps.{Steps.here, Steps.silent, Steps.reads}
 use Rattle.run.specs.Visits.{Acts.moves as acts_move, Acts.takes as acts_take}
-use Rattle.sound.specs.Laws.Advance.{Kept}
-use Rattle.sound.specs.Laws.CommandKept.{Refused, command_kept}
-use Rattle.sound.specs.Laws.ShallowLaws.{good_entries}
-use Rattle.sound.specs.Laws.HolderLaws.{chosen_holds}
-use Rattle.sound.specs.Laws.NeverStuckLaws.{acts_good}
-use Rattle.sound.specs.Laws.TabledLaws.{acts_tabled}
+use Rattle.sound.proofs.Laws.Advance.{Kept}
+use Rattle.sound.proofs.Laws.CommandKept.{Refused, command_kept}
+use Rattle.sound.proofs.Laws.ShallowLaws.{good_entries}
+use Rattle.sound.proofs.Laws.HolderLaws.{chosen_holds}
+use Rattle.sound.proofs.Laws.NeverStuckLaws.{acts_good}
+use Rattle.sound.proofs.Laws.TabledLaws.{acts_tabled}
 use Rattle.layout.specs.Layout.{holds}
 use Rattle.layout.specs.State.{State}
 use Rattle.layout.specs.Codes.{end_code}

@@ -5,8 +5,8 @@ use Rattle.std.proofs.Common.{ap, ◌∙◌, arith, length-drop}
 use Rattle.program.specs.Tree.{Program}
 use Rattle.machine.specs.Machine.{Machine}
 use Rattle.run.specs.Run.{Outcome.stopped, run}
-use Rattle.run.specs.Laws.FuelLaws.{steps_stopped}
-use Rattle.run.specs.Laws.StepsLaws.{steps_on, steps_turns}
+use Rattle.run.proofs.Laws.FuelLaws.{steps_stopped}
+use Rattle.run.proofs.Laws.StepsLaws.{steps_on, steps_turns}
 use Rattle.run.specs.Visits.{Visits}
 
 module _ {p : Program} where

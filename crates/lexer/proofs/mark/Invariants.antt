@@ -1,4 +1,4 @@
-use Rattle.std.proofs.Common.{◌+◌, ◌-◌, ◌≤◌, ◌∙◌, length}
+use Rattle.std.proofs.Common.{◌-◌, length}
 use Rattle.tokens.specs.Laws.MarkingLaws.{Reached}
 use Rattle.lexer.proofs.mark.Given as goal
 

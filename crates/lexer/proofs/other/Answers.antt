@@ -14,16 +14,15 @@ overflow_add-next-then-opens c =
     )
 
 pub closing-requires : goal.closing-requires
-closing-requires c =
-    (
-      omega arith,
-      omega (
-        arith,
-        opens_inside c.args.text.now (c.args.at + 1) (get_or
-            c.args.text.now c.args.at 0) (rw c.byte-c.ensures at (sym
-            c.opens.ensures ∙ c.if-opens.true)),
-      ),
-    )
+closing-requires c = (
+  omega arith,
+  omega (
+    arith,
+    opens_inside c.args.text.now (c.args.at + 1) (get_or
+        c.args.text.now c.args.at 0) (rw c.byte-c.ensures at (sym
+        c.opens.ensures ∙ c.if-opens.true)),
+  ),
+)
 
 pub comment-requires : goal.comment-requires
 comment-requires c =

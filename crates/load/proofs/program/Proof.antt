@@ -4,7 +4,7 @@ use mathlib.Core.Path.{◌≡◌, sym, ◌∙◌}
 use lib.ListN.{take}
 use lib.Seq.{length-take-le}
 use Rattle.blocks.specs.Images.{stream}
-use Rattle.blocks.specs.OpeningLaws.{opened_fault, opened_stream, opened_as, opened_front}
+use Rattle.blocks.proofs.OpeningLaws.{opened_fault, opened_stream, opened_as, opened_front}
 use Rattle.verdict.specs.Verdict.{checked}
 use Rattle.load.specs.LoadLaws.{image_refused, image_read, refused_told, refused_held, refused_rows, stream_held}
 use borrow.Author.Rules.{rules}

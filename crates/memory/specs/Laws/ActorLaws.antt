@@ -13,16 +13,16 @@ use Rattle.commands.specs.Context.{params_of, find_step}
 use Rattle.commands.specs.Bounds.{program_depth}
 use Rattle.commands.specs.Noted.{Note, Note.n_push, Note.n_this, Note.n_cons}
 use Rattle.commands.specs.Tags.{stack_after, jump, Way.on}
-use Rattle.commands.specs.Laws.SecureWays.{behind, way_secure}
+use Rattle.commands.proofs.Laws.SecureWays.{behind, way_secure}
 use Rattle.machine.specs.Published.{Env, Env.env, lookup, structs, arity}
 use Rattle.machine.specs.Machine.{Instance, Machine}
 use Rattle.sound.specs.Needs.{Needs}
 use Rattle.sound.specs.Invariant.{Job, Fits, Fitted, Passage, Good}
 use Rattle.sound.specs.Firm.{Firm}
-use Rattle.sound.specs.Laws.ReadyLaws.{good_right}
-use Rattle.sound.specs.Laws.PassageLaws.{holder_passage, first_held, has_step as step_had, ctx, way_at, next_sized}
-use Rattle.sound.specs.Laws.EachLaws.{each_length}
-use Rattle.sound.specs.Laws.ElemLaws.{none_some}
+use Rattle.sound.proofs.Laws.ReadyLaws.{good_right}
+use Rattle.sound.proofs.Laws.PassageLaws.{holder_passage, first_held, has_step as step_had, ctx, way_at, next_sized}
+use Rattle.sound.proofs.Laws.EachLaws.{each_length}
+use Rattle.sound.proofs.Laws.ElemLaws.{none_some}
 use Rattle.sound.specs.Sized.{Sized}
 use Rattle.memory.specs.Frame.{AllSlim, Bounded}
 use Rattle.memory.specs.Laws.VarLaws.{near_env}

@@ -19,8 +19,8 @@ use Rattle.machine.specs.Machine.{Instance, Machine, with_written, acting, Out, 
 use Rattle.run.specs.Holders.{holds_code}
 use Rattle.sound.specs.Invariant.{Good}
 use Rattle.sound.specs.Firm.{Firm}
-use Rattle.sound.specs.Laws.Advance.{Kept}
-use Rattle.sound.specs.Laws.CommandKept.{Refused, commanded, turning_good, command_kept}
+use Rattle.sound.proofs.Laws.Advance.{Kept}
+use Rattle.sound.proofs.Laws.CommandKept.{Refused, commanded, turning_good, command_kept}
 use Rattle.sound.specs.Sized.{Sized, Lasting, Lasting.an_int, Lasting.a_nat, Lasting.a_bool, Lasting.a_null}
 use Rattle.layout.specs.Layout.{operand, holds}
 use Rattle.layout.specs.State.{State, with_holding, with_from, refused as refusing}

@@ -5,7 +5,7 @@ use Rattle.std.proofs.Common.{ap, sym, ◌∙◌, eqb-true}
 use Rattle.std.proofs.lemmas.Bool.{eqb-false}
 use Rattle.types.specs.Limits.{nat_end, max_structs}
 use Rattle.types.specs.Types.{Ty, Ty.int, Ty.nat, Ty.bool, Ty.ref, IsType, code}
-use Rattle.types.specs.Laws.TypeLaws.{type_of_code}
+use Rattle.types.proofs.Laws.TypeLaws.{type_of_code}
 use Rattle.types.specs.TypeBytes.{ValueOf}
 use Rattle.types.specs.Values.{Val, Val.int_val, Val.nat_val, Val.bool_val, Val.label, int_word, word, value_of}
 use Rattle.program.specs.Tree.{Op, Op.op_eq, Op.op_ne, Op.op_le, Op.op_ge, Op.op_lt, Op.op_gt, Op.op_mul, Op.op_div, Op.op_rem, Op.op_add, Op.op_sub}
@@ -14,11 +14,11 @@ use Rattle.program.specs.Encoding.{op_code}
 use Rattle.commands.specs.Typing.{sort, Takes, Takes.any_equal, Takes.order_int, Takes.order_nat, Takes.arith_int, Takes.arith_nat, Takes.logic_bool}
 use Rattle.commands.specs.Coding.{coded}
 use Rattle.operators.specs.Ranges.{Of as Range, Of.of_int, Of.of_nat, Of.of_bool, Of.of_ref}
-use Rattle.operators.specs.Laws.ValueLaws.{value_word}
+use Rattle.operators.proofs.Laws.ValueLaws.{value_word}
 use Rattle.operators.specs.Apply.{apply, same_val}
-use Rattle.operators.specs.Laws.TestLaws.{same_val_exact, same_val_false}
+use Rattle.operators.proofs.Laws.TestLaws.{same_val_exact, same_val_false}
 use Rattle.operators.specs.Words.{answered, apply_word}
-use Rattle.operators.specs.Laws.WordLaws.{op_of_code}
+use Rattle.operators.proofs.Laws.WordLaws.{op_of_code}
 use Rattle.sound.specs.Sized.{Lasting, Lasting.an_int, Lasting.a_nat, Lasting.a_bool, Lasting.a_null}
 use Rattle.layout.specs.Layout.{cell, type_byte, operand, label_cell}
 use Rattle.memory.specs.Act.{bool_byte, result_byte}

@@ -15,7 +15,7 @@ use Rattle.machine.specs.Published.{Sched}
 use Rattle.machine.specs.Machine.{Instance, Machine}
 use Rattle.run.specs.Turns.{labels_from, round_from, chosen}
 use Rattle.run.specs.Holders.{holds_code, flag, flags as flags_of, holders}
-use Rattle.run.specs.Laws.RoundLaws.{round_length}
+use Rattle.run.proofs.Laws.RoundLaws.{round_length}
 use Rattle.layout.specs.Layout.{next_of, end_of, holds}
 use Rattle.layout.specs.State.{State, of_head}
 use Rattle.memory.specs.Stands.{note_words, Held, Stands}

@@ -20,9 +20,9 @@ use Rattle.run.specs.Begin.{resting}
 use Rattle.sound.specs.Needs.{Operand}
 use Rattle.sound.specs.Invariant.{Good}
 use Rattle.sound.specs.Firm.{Firm}
-use Rattle.sound.specs.Laws.ElemLaws.{at_append, at_below}
-use Rattle.sound.specs.Laws.EachLaws.{each_length}
-use Rattle.sound.specs.Laws.Outcomes.{constructs, finds_full}
+use Rattle.sound.proofs.Laws.ElemLaws.{at_append, at_below}
+use Rattle.sound.proofs.Laws.EachLaws.{each_length}
+use Rattle.sound.proofs.Laws.Outcomes.{constructs, finds_full}
 use Rattle.layout.specs.Layout.{head, head_size, next_of, end_of, row_size, stacked, label_cell, new_head}
 use Rattle.layout.specs.State.{State, of_head, refused}
 use Rattle.memory.specs.Act.{full, pushed, height, after, do_cons, made}

@@ -2,7 +2,7 @@
 use Rattle.std.specs.Prelude.{◌*◌, ◌≡◌, refl, Bool, true, false, ◌&&◌, List, [], ◌∷◌, map}
 use Rattle.std.proofs.Common.{arith, mul-one, mul-zero, ap, ◌∙◌}
 use Rattle.machine.specs.Rules.{meet}
-use Rattle.machine.specs.Laws.RulesLaws.{meet_each}
+use Rattle.machine.proofs.Laws.RulesLaws.{meet_each}
 use Rattle.layout.specs.State.{State, bit, times, unstable}
 use Rattle.memory.specs.Stands.{bits}
 

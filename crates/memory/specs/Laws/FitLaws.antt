@@ -9,13 +9,13 @@ use Rattle.types.specs.Types.{Ty, Ty.int, Ty.nat, Ty.bool}
 use Rattle.types.specs.Values.{Val, Val.int_val, Val.nat_val, Val.bool_val, Val.label, word}
 use Rattle.program.specs.Tree.{Op, Program}
 use Rattle.program.specs.Encoding.{op_code}
-use Rattle.program.specs.Laws.ExprLaws.{op_range}
+use Rattle.program.proofs.Laws.ExprLaws.{op_range}
 use Rattle.commands.specs.Context.{params_of}
 use Rattle.commands.specs.Typing.{Sort, sort, Takes, Takes.any_equal, Takes.order_int, Takes.order_nat, Takes.arith_int, Takes.arith_nat, Takes.logic_bool}
 use Rattle.commands.specs.Noted.{Note, Note.n_push, Note.n_this, Note.n_not, Note.n_rd, Note.n_wr, Note.n_get, Note.n_set, Note.n_cons, Note.n_op, Note.n_if}
 use Rattle.operators.specs.Apply.{Answer, Answer.value, Answer.outside, Answer.unfit, apply}
 use Rattle.operators.specs.Ranges.{Of as Range, Of.of_int, Of.of_nat, Of.of_bool, Fits as Answers}
-use Rattle.operators.specs.Laws.RangesLaws.{apply_fits}
+use Rattle.operators.proofs.Laws.RangesLaws.{apply_fits}
 use Rattle.operators.specs.declared.Answered.TheVariants.{Value}
 use Rattle.operators.specs.Words.{apply_word, answered}
 use Rattle.machine.specs.Published.{Sched, structs, arity}
@@ -23,8 +23,8 @@ use Rattle.machine.specs.Machine.{Tagged, Instance, Machine}
 use Rattle.sound.specs.Needs.{ValueAmong, Operand}
 use Rattle.sound.specs.Invariant.{Good}
 use Rattle.sound.specs.Firm.{Firm}
-use Rattle.sound.specs.Laws.EachLaws.{each_length}
-use Rattle.sound.specs.Laws.ValueLaws.{bool_value, label_value, ranges}
+use Rattle.sound.proofs.Laws.EachLaws.{each_length}
+use Rattle.sound.proofs.Laws.ValueLaws.{bool_value, label_value, ranges}
 use Rattle.layout.specs.Layout.{struct_of, next_of, end_of, type_byte, operand}
 use Rattle.layout.specs.State.{State, of_head}
 use Rattle.memory.specs.Act.{height, top, beneath, next_word}

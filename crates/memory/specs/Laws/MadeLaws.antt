@@ -14,7 +14,7 @@ use Rattle.commands.specs.Coding.{words}
 use Rattle.machine.specs.Published.{Sched}
 use Rattle.machine.specs.Machine.{Tagged, Instance, Machine, with_instances}
 use Rattle.run.specs.Begin.{resting}
-use Rattle.sound.specs.Laws.ElemLaws.{none_some, some_is, at_snoc, at_below}
+use Rattle.sound.proofs.Laws.ElemLaws.{none_some, some_is, at_snoc, at_below}
 use Rattle.layout.specs.Layout.{head_size, struct_of, height_of, next_of, end_of, row_size, stacked, new_head}
 use Rattle.layout.specs.State.{State, of_head, with_heads, with_cells, with_count}
 use Rattle.memory.specs.Stands.{Shows, Stack, Held, Stands}

@@ -16,13 +16,13 @@ use Rattle.types.specs.Limits.{max_instances, step_names}
 use Rattle.program.specs.Tree.{Stmts, Program}
 use Rattle.commands.specs.Coding.{words}
 use Rattle.commands.specs.Context.{context, step_of}
-use Rattle.commands.specs.Laws.NotedLaws.{erased}
+use Rattle.commands.proofs.Laws.NotedLaws.{erased}
 use Rattle.machine.specs.Published.{StepCall, StepCall.global, StepCall.local, called, Sched, Sched.done, Sched.start, Sched.fixpoint, Sched.active, before}
 use Rattle.machine.specs.Published.{structs}
 use Rattle.machine.specs.Machine.{Instance, Machine, Moved, Moved.next, Moved.stuck, machine, given, started, repeat, move_by, move}
 use Rattle.sound.specs.Invariant.{Open}
-use Rattle.sound.specs.Laws.MoveKept.{active_open}
-use Rattle.sound.specs.Laws.ElemLaws.{none_some, map_at}
+use Rattle.sound.proofs.Laws.MoveKept.{active_open}
+use Rattle.sound.proofs.Laws.ElemLaws.{none_some, map_at}
 use Rattle.layout.specs.Layout.{head, head_size, struct_of, height_of, next_of, end_of}
 use Rattle.layout.specs.State.{State, with_heads, moved}
 use Rattle.memory.specs.Stands.{bits, Held, Stands}

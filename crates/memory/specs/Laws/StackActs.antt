@@ -17,14 +17,14 @@ use Rattle.commands.specs.Tags.{result_type}
 use Rattle.commands.specs.Noted.{Note, Note.n_push, Note.n_this, Note.n_not, Note.n_op, Note.n_if, now_written}
 use Rattle.operators.specs.Apply.{Answer, Answer.value, Answer.outside, Answer.unfit, apply}
 use Rattle.operators.specs.Ranges.{Fits as Answers}
-use Rattle.operators.specs.Laws.RangesLaws.{apply_fits}
+use Rattle.operators.proofs.Laws.RangesLaws.{apply_fits}
 use Rattle.operators.specs.Words.{apply_word, answered as as_words}
 use Rattle.machine.specs.Published.{Sched, structs}
 use Rattle.machine.specs.Machine.{Tagged, tagged, Source.result, Instance, Machine, with_code, with_written, put, operated, perform}
 use Rattle.sound.specs.Invariant.{Good}
 use Rattle.sound.specs.Firm.{Firm}
-use Rattle.sound.specs.Laws.ValueLaws.{bool_value, ranges}
-use Rattle.sound.specs.Laws.Outcomes.{negated, branched, operates}
+use Rattle.sound.proofs.Laws.ValueLaws.{bool_value, ranges}
+use Rattle.sound.proofs.Laws.Outcomes.{negated, branched, operates}
 use Rattle.layout.specs.Layout.{struct_of, cell, type_byte, operand, label_cell}
 use Rattle.layout.specs.State.{State, of_head}
 use Rattle.memory.specs.Act.{height, after, top, beneath, bool_byte, result_byte, do_push, do_this, do_not, do_if, do_op, answered}

@@ -11,9 +11,9 @@ use Rattle.commands.specs.Noted.{Note}
 use Rattle.machine.specs.Published.{Sched, lookup, assign}
 use Rattle.machine.specs.Rules.{meet}
 use Rattle.machine.specs.Machine.{Tagged, Instance, Machine, with_env, update_env, with_instances, with_stability, put}
-use Rattle.sound.specs.Laws.ElemLaws.{some_is, at_set_same, at_set_other, at_below}
-use Rattle.sound.specs.Laws.Keeps.{env_length, at_env_same, at_env_other}
-use Rattle.sound.specs.Laws.GoodLaws.{meet_length}
+use Rattle.sound.proofs.Laws.ElemLaws.{some_is, at_set_same, at_set_other, at_below}
+use Rattle.sound.proofs.Laws.Keeps.{env_length, at_env_same, at_env_other}
+use Rattle.sound.proofs.Laws.GoodLaws.{meet_length}
 use Rattle.layout.specs.Layout.{end_of, row_size, variable, stacked}
 use Rattle.layout.specs.State.{State, of_head, of_cell, with_cells, with_from, with_holding, bit, times}
 use Rattle.memory.specs.Act.{gone, pushed}

@@ -24,11 +24,11 @@ use Rattle.machine.specs.Machine.{with_written, with_instances, with_stability, 
 use Rattle.sound.specs.Needs.{ValueAmong, Needs}
 use Rattle.sound.specs.Invariant.{Good}
 use Rattle.sound.specs.Firm.{Firm}
-use Rattle.sound.specs.Laws.ElemLaws.{some_is, at_set_same, at_set_other}
-use Rattle.sound.specs.Laws.EnvLaws.{param_holds}
-use Rattle.sound.specs.Laws.ValueLaws.{label_value, ranges}
-use Rattle.sound.specs.Laws.Outcomes.{has_read, leaves_null, writes_param, writes_local}
-use Rattle.sound.specs.Laws.WriteKept.{same_env}
+use Rattle.sound.proofs.Laws.ElemLaws.{some_is, at_set_same, at_set_other}
+use Rattle.sound.proofs.Laws.EnvLaws.{param_holds}
+use Rattle.sound.proofs.Laws.ValueLaws.{label_value, ranges}
+use Rattle.sound.proofs.Laws.Outcomes.{has_read, leaves_null, writes_param, writes_local}
+use Rattle.sound.proofs.Laws.WriteKept.{same_env}
 use Rattle.layout.specs.Layout.{struct_of, variable, operand}
 use Rattle.layout.specs.State.{State, of_head, of_cell}
 use Rattle.memory.specs.Act.{gone, height, after, top, beneath, do_rd, do_wr, stored, written, written_to}

@@ -6,8 +6,8 @@ use Rattle.std.proofs.Math.ListN.{get_elem?}
 use Rattle.types.specs.Limits.{first_local, max_locals, variables}
 use Rattle.types.specs.Values.{Val}
 use Rattle.machine.specs.Published.{Env, Env.env, lookup, assign, fresh_env}
-use Rattle.sound.specs.Laws.ElemLaws.{none_some, some_is, at_set_other, at_below}
-use Rattle.sound.specs.Laws.EnvLaws.{param_at, local_at, param_set, local_set, other_kept, local_kept}
+use Rattle.sound.proofs.Laws.ElemLaws.{none_some, some_is, at_set_other, at_below}
+use Rattle.sound.proofs.Laws.EnvLaws.{param_at, local_at, param_set, local_set, other_kept, local_kept}
 
 -- a parameter, or a local
 abbrev Side : ℕ → Type 0

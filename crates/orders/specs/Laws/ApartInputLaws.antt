@@ -7,7 +7,7 @@ use Rattle.types.specs.Numbers.{wrong_names}
 use Rattle.types.specs.Reflects.{reflects_iff}
 use Rattle.types.specs.Orders.{NoneOf, Foremost, Tells.passes}
 use Rattle.types.specs.Stages.{Stages}
-use Rattle.types.specs.Laws.StageLaws.{stage_asked, stage_on, stage_number, stage_none, stage_past, stage_refused}
+use Rattle.types.proofs.Laws.StageLaws.{stage_asked, stage_on, stage_number, stage_none, stage_past, stage_refused}
 use Rattle.program.specs.Tree.{Program}
 use Rattle.commands.specs.Accepted.{Accepted}
 use Rattle.commands.specs.Decide.NamesDecide.{stepped}
@@ -17,7 +17,7 @@ use Rattle.machine.specs.Machine.{Machine}
 use Rattle.run.specs.Holders.{due}
 use Rattle.run.specs.Runs.{Config.config}
 use Rattle.run.specs.Entry.{begun, not_begun}
-use Rattle.run.specs.Laws.InputLaws.{tell_images}
+use Rattle.run.proofs.Laws.InputLaws.{tell_images}
 use Rattle.orders.specs.Orders.{Turns}
 use Rattle.orders.specs.Touches.{Apart}
 use Rattle.orders.specs.OrderFree.{OrderFree}

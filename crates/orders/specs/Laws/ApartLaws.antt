@@ -10,14 +10,14 @@ use Rattle.program.specs.Tree.{Program}
 use Rattle.machine.specs.Published.{State, State.state, structs}
 use Rattle.machine.specs.Rules.{Actor.instance, Rule}
 use Rattle.machine.specs.Machine.{Instance, Machine, Out.next, acting, command}
-use Rattle.machine.specs.Laws.FromLaws.{command_from}
+use Rattle.machine.proofs.Laws.FromLaws.{command_from}
 use Rattle.machine.specs.Represents.{Represents}
-use Rattle.machine.specs.Laws.RepresentsLaws.{still_done}
-use Rattle.machine.specs.Laws.CommandAgrees.{command_follows}
+use Rattle.machine.proofs.Laws.RepresentsLaws.{still_done}
+use Rattle.machine.proofs.Laws.CommandAgrees.{command_follows}
 use Rattle.run.specs.Turns.{chosen}
 use Rattle.run.specs.Holders.{due}
 use Rattle.run.specs.Runs.{Due, Config.config, picked}
-use Rattle.run.specs.Laws.TurnLaws.{holders_still, due_none, due_still, holders_represent}
+use Rattle.run.proofs.Laws.TurnLaws.{holders_still, due_none, due_still, holders_represent}
 use Rattle.sound.specs.Firm.{Firm}
 use Rattle.sound.specs.Invariant.{Good}
 use Rattle.orders.specs.Orders.{Ordered, Ordered.no_turn, Ordered.a_turn, Turns, Turns.no_byte, Turns.a_byte}

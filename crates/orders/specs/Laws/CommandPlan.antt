@@ -12,12 +12,12 @@ use Rattle.machine.specs.Machine.{Tagged, tagged, Instance, Machine, Out, Out.ne
 use Rattle.machine.specs.Performed.{Reads, Reads.parameter, Reads.of_local, Writes, Writes.to_parameter, Writes.to_local, Performed, Performed.pushed}
 use Rattle.machine.specs.Performed.{Performed.pushed_this, Performed.negated, Performed.read_one, Performed.skipped, Performed.wrote, Performed.calculated}
 use Rattle.machine.specs.Performed.{Performed.exceeding, Performed.constructed, Performed.filled, Performed.branched, Performed.no_way}
-use Rattle.machine.specs.Laws.PerformedLaws.{by_ways}
+use Rattle.machine.proofs.Laws.PerformedLaws.{by_ways}
 use Rattle.sound.specs.Firm.{Firm}
 use Rattle.sound.specs.Invariant.{Good}
 use Rattle.sound.specs.Needs.{ValueAmong, Needs, NextReady}
-use Rattle.sound.specs.Laws.ReadyLaws.{good_right}
-use Rattle.sound.specs.Laws.ElemLaws.{some_is}
+use Rattle.sound.proofs.Laws.ReadyLaws.{good_right}
+use Rattle.sound.proofs.Laws.ElemLaws.{some_is}
 use Rattle.orders.specs.Deeds.{Deed}
 use Rattle.orders.specs.Laws.Plans.{Plan, applied, Plans, Plans.p_push, Plans.p_this, Plans.p_not, Plans.p_if, Plans.p_op, Plans.p_rd, Plans.p_get}
 use Rattle.orders.specs.Laws.Plans.{Plans.p_set, Plans.p_skip, Plans.p_wr}
@@ -56,12 +56,28 @@ module _ (p : Program) (firm : Firm p) (m : Machine) (l : ℕ) (i : Instance) (a
       let same : q ≡ l = label_is (ap (λ z. z.is) (top s h) ∙ o) in
       let z = some_is (sym (rw same at g) ∙ at) in
       (_, _, p_get e (rw same at s) refl (rw z at f))
+  reads_plan (Rattle.commands.specs.Noted.n_push _ _) {v = v} {q = q} {o = o} {u = u} {χ = χ} {j = j} {r = r} e need x10 s g f = elim x10 [ ]
+  reads_plan Rattle.commands.specs.Noted.n_this {v = v} {q = q} {o = o} {u = u} {χ = χ} {j = j} {r = r} e need x9 s g f = elim x9 [ ]
+  reads_plan Rattle.commands.specs.Noted.n_not {v = v} {q = q} {o = o} {u = u} {χ = χ} {j = j} {r = r} e need x10 s g f = elim x10 [ ]
+  reads_plan (n_wr _ _) {v = v} {q = q} {o = o} {u = u} {χ = χ} {j = j} {r = r} e need x13 s g f = elim x13 [ ]
+  reads_plan (n_set _ _ _) {v = v} {q = q} {o = o} {u = u} {χ = χ} {j = j} {r = r} e need x15 s g f = elim x15 [ ]
+  reads_plan (n_cons _) {v = v} {q = q} {o = o} {u = u} {χ = χ} {j = j} {r = r} e need x14 s g f = elim x14 [ ]
+  reads_plan (Rattle.commands.specs.Noted.n_op _) {v = v} {q = q} {o = o} {u = u} {χ = χ} {j = j} {r = r} e need x15 s g f = elim x15 [ ]
+  reads_plan (Rattle.commands.specs.Noted.n_if _) {v = v} {q = q} {o = o} {u = u} {χ = χ} {j = j} {r = r} e need x16 s g f = elim x16 [ ]
 
   -- a write that is dropped
   skips_plan : (n : Note) {v q : ℕ} {u : Ty} {y : Tagged} {χ : List Tagged} {j : Instance} {r : List Note} → i.code ≡ n ∷ r → Writes n v
       → i.stack ≡ tagged u (label q) ∷ y ∷ χ → get_elem? m.instances q ≡ some j → q < structs p → v < arity p j.struct → Planned p m l i
   skips_plan (n_wr k v) e to_parameter s g z h = (_, _, p_skip e s refl g z h)
   skips_plan (n_set d t x) {j = j} e to_local s g z h = absurd (omega (arith, firm.few j.struct, h))
+  skips_plan (Rattle.commands.specs.Noted.n_push _ _) {v = v} {q = q} {u = u} {y = y} {χ = χ} {j = j} {r = r} e x8 s g z h = elim x8 [ ]
+  skips_plan Rattle.commands.specs.Noted.n_this {v = v} {q = q} {u = u} {y = y} {χ = χ} {j = j} {r = r} e x7 s g z h = elim x7 [ ]
+  skips_plan Rattle.commands.specs.Noted.n_not {v = v} {q = q} {u = u} {y = y} {χ = χ} {j = j} {r = r} e x8 s g z h = elim x8 [ ]
+  skips_plan (n_rd _ _) {v = v} {q = q} {u = u} {y = y} {χ = χ} {j = j} {r = r} e x11 s g z h = elim x11 [ ]
+  skips_plan (n_get _ _) {v = v} {q = q} {u = u} {y = y} {χ = χ} {j = j} {r = r} e x12 s g z h = elim x12 [ ]
+  skips_plan (n_cons _) {v = v} {q = q} {u = u} {y = y} {χ = χ} {j = j} {r = r} e x12 s g z h = elim x12 [ ]
+  skips_plan (Rattle.commands.specs.Noted.n_op _) {v = v} {q = q} {u = u} {y = y} {χ = χ} {j = j} {r = r} e x13 s g z h = elim x13 [ ]
+  skips_plan (Rattle.commands.specs.Noted.n_if _) {v = v} {q = q} {u = u} {y = y} {χ = χ} {j = j} {r = r} e x14 s g z h = elim x14 [ ]
 
   -- one to a parameter
   stores_plan : (k v : ℕ) {q : ℕ} {u : Ty} {y : Tagged} {χ : List Tagged} {j : Instance} {r : List Note} → i.code ≡ n_wr k v ∷ r
@@ -98,6 +114,14 @@ module _ (p : Program) (firm : Firm p) (m : Machine) (l : ℕ) (i : Instance) (a
       let (a, y, (χ, h), (b, o), w, z) = need in
       let same : q ≡ l = label_is (ap (λ z. z.is) (top s h) ∙ o) in
       (_, _, p_set e (rw same at s) refl)
+  writes_plan (Rattle.commands.specs.Noted.n_push _ _) {v = v} {q = q} {u = u} {y = y} {χ = χ} {j = j} {r = r} e need x9 s g never some_value = elim x9 [ ]
+  writes_plan Rattle.commands.specs.Noted.n_this {v = v} {q = q} {u = u} {y = y} {χ = χ} {j = j} {r = r} e need x8 s g never some_value = elim x8 [ ]
+  writes_plan Rattle.commands.specs.Noted.n_not {v = v} {q = q} {u = u} {y = y} {χ = χ} {j = j} {r = r} e need x9 s g never some_value = elim x9 [ ]
+  writes_plan (n_rd _ _) {v = v} {q = q} {u = u} {y = y} {χ = χ} {j = j} {r = r} e need x12 s g never some_value = elim x12 [ ]
+  writes_plan (n_get _ _) {v = v} {q = q} {u = u} {y = y} {χ = χ} {j = j} {r = r} e need x13 s g never some_value = elim x13 [ ]
+  writes_plan (n_cons _) {v = v} {q = q} {u = u} {y = y} {χ = χ} {j = j} {r = r} e need x13 s g never some_value = elim x13 [ ]
+  writes_plan (Rattle.commands.specs.Noted.n_op _) {v = v} {q = q} {u = u} {y = y} {χ = χ} {j = j} {r = r} e need x14 s g never some_value = elim x14 [ ]
+  writes_plan (Rattle.commands.specs.Noted.n_if _) {v = v} {q = q} {u = u} {y = y} {χ = χ} {j = j} {r = r} e need x15 s g never some_value = elim x15 [ ]
 
   -- a command that gives a next machine and is no cons
   way_plan : (n : Note) (r : List Note) (o : Out) (m' : Machine) → i.code ≡ n ∷ r → Needs p m l i n → ((k : ℕ) → n ≡ n_cons k → ⊥) → o ≡ next m'

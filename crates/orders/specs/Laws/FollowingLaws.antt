@@ -14,14 +14,14 @@ use Rattle.commands.specs.Noted.{Note, Note.n_rd, Note.n_wr}
 use Rattle.machine.specs.Published.{State, structs}
 use Rattle.machine.specs.Machine.{Tagged, Instance, Machine, Out, Out.next, Out.refused, Out.stuck, command}
 use Rattle.machine.specs.Represents.{values, Represents}
-use Rattle.machine.specs.Laws.RepresentsLaws.{instance_at, top}
+use Rattle.machine.proofs.Laws.RepresentsLaws.{instance_at, top}
 use Rattle.machine.specs.Heads.{Means, Means.m_rd, Means.m_get, Means.m_wr, Means.m_set, next_note}
-use Rattle.machine.specs.Laws.CommandAgrees.{command_follows, command_complete}
+use Rattle.machine.proofs.Laws.CommandAgrees.{command_follows, command_complete}
 use Rattle.orders.specs.Orders.{Ordered, Ordered.no_turn, Ordered.a_turn}
 use Rattle.orders.specs.Touches.{Use, Use.reading, Use.writing, Touches, Touches.by_rd, Touches.by_wr, Does, Apart}
 use Rattle.orders.specs.Deeds.{Act, Deed, Deed.reads, Deed.writes}
 use Rattle.orders.specs.Following.{top_deed, write_deed, code_deed, deed_at, onto, deeds_of, used, every, touching, clear_by, all_clear, led, acted}
-use Rattle.sound.specs.Laws.ElemLaws.{none_some, some_is}
+use Rattle.sound.proofs.Laws.ElemLaws.{none_some, some_is}
 
 module _ (p : Program) where
   rd_found : {v q : ℕ} {χ : List Val} {n : Note} (c : List Note) (ψ : List Tagged) → v < first_local → values ψ ≡ label q ∷ χ → Means (plain (rd v)) n

@@ -10,9 +10,9 @@ use Rattle.commands.specs.Noted.{Note, Note.n_cons}
 use Rattle.machine.specs.Machine.{Instance, Machine, acting}
 use Rattle.sound.specs.Firm.{Firm}
 use Rattle.sound.specs.Invariant.{Good}
-use Rattle.sound.specs.Laws.Advance.{Kept}
-use Rattle.sound.specs.Laws.CommandKept.{command_kept, Refused}
-use Rattle.sound.specs.Laws.ElemLaws.{some_is}
+use Rattle.sound.proofs.Laws.Advance.{Kept}
+use Rattle.sound.proofs.Laws.CommandKept.{command_kept, Refused}
+use Rattle.sound.proofs.Laws.ElemLaws.{some_is}
 use Rattle.orders.specs.Deeds.{Deed, Clash}
 use Rattle.orders.specs.Laws.Commuting.{Commuting}
 use Rattle.orders.specs.Laws.Alter.{alter, at_alter_same, at_alter_other}

@@ -10,13 +10,13 @@ use Rattle.machine.specs.Machine.{Tagged, Instance, Machine, Out, Out.next, Out.
 use Rattle.machine.specs.Performed.{Performed, Performed.pushed, Performed.pushed_this, Performed.negated, Performed.read_one, Performed.skipped}
 use Rattle.machine.specs.Performed.{Performed.wrote, Performed.calculated, Performed.exceeding, Performed.constructed, Performed.filled, Performed.branched}
 use Rattle.machine.specs.Performed.{Performed.no_way}
-use Rattle.machine.specs.Laws.PerformedLaws.{by_ways}
+use Rattle.machine.proofs.Laws.PerformedLaws.{by_ways}
 use Rattle.run.specs.Holders.{due}
 use Rattle.run.specs.Runs.{Config.config}
 use Rattle.sound.specs.Firm.{Firm}
-use Rattle.sound.specs.Laws.Advance.{Kept}
-use Rattle.sound.specs.Laws.CommandKept.{Refused}
-use Rattle.sound.specs.Laws.NeverStuckLaws.{taken_kept}
+use Rattle.sound.proofs.Laws.Advance.{Kept}
+use Rattle.sound.proofs.Laws.CommandKept.{Refused}
+use Rattle.sound.proofs.Laws.NeverStuckLaws.{taken_kept}
 use Rattle.orders.specs.Orders.{Turns}
 use Rattle.orders.specs.Touches.{Use, Use.reading, Use.writing, Touches, Does}
 use Rattle.orders.specs.Deeds.{Deed, Deed.nothing, Deed.reads, Deed.writes, Act, Clash}

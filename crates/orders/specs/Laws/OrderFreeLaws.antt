@@ -14,24 +14,24 @@ use Rattle.machine.specs.Rules.{Done, given, started, Actor.schedule, Rule, Rule
 use Rattle.machine.specs.Stops.{Full, Exceeded}
 use Rattle.machine.specs.Machine.{Machine}
 use Rattle.machine.specs.Represents.{Represents}
-use Rattle.machine.specs.Laws.RepresentsLaws.{inst_at, still_done}
-use Rattle.machine.specs.Laws.MoveAgrees.{move_complete}
+use Rattle.machine.proofs.Laws.RepresentsLaws.{inst_at, still_done}
+use Rattle.machine.proofs.Laws.MoveAgrees.{move_complete}
 use Rattle.run.specs.Holders.{due}
 use Rattle.table.specs.Table.{Record, TableRight}
 use Rattle.run.specs.Begin.{begin}
 use Rattle.run.specs.Initial.{initially}
-use Rattle.run.specs.Laws.BeginLaws.{begin_stands}
-use Rattle.run.specs.Laws.RunAgreesVisits.{passes_visits}
+use Rattle.run.proofs.Laws.BeginLaws.{begin_stands}
+use Rattle.run.proofs.Laws.RunAgreesVisits.{passes_visits}
 use Rattle.run.specs.Runs.{Passes, Due, Config.config}
 use Rattle.run.specs.Runs.{Step as RunStep}
 use Rattle.run.specs.Steps.{Steps}
 use Rattle.run.specs.Visits.{Acts.moves}
-use Rattle.run.specs.Laws.TurnLaws.{holders_still, due_none}
+use Rattle.run.proofs.Laws.TurnLaws.{holders_still, due_none}
 use Rattle.sound.specs.Invariant.{Good}
-use Rattle.sound.specs.Laws.ElemLaws.{all_elem}
-use Rattle.sound.specs.Laws.AcceptedLaws.{accepted_firm}
-use Rattle.sound.specs.Laws.BeginGood.{begin_good}
-use Rattle.sound.specs.Laws.NeverStuckLaws.{acts_good, visits_good}
+use Rattle.sound.proofs.Laws.ElemLaws.{all_elem}
+use Rattle.sound.proofs.Laws.AcceptedLaws.{accepted_firm}
+use Rattle.sound.proofs.Laws.BeginGood.{begin_good}
+use Rattle.sound.proofs.Laws.NeverStuckLaws.{acts_good, visits_good}
 use Rattle.orders.specs.Orders.{Ordered, Completes}
 use Rattle.orders.specs.Touches.{Apart}
 use Rattle.orders.specs.Constructing.{NoCons, MakesNone, ConstructsNothing}
@@ -39,11 +39,11 @@ use Rattle.orders.specs.OrderFree.{params_in, entries_in, OrderFree}
 use Rattle.orders.specs.Laws.Holding.{NoCons as NoConsNote, MakesNone as NoneMade}
 use Rattle.machine.specs.Rules.{Actor.instance}
 use Rattle.machine.specs.Machine.{Out.next, command}
-use Rattle.machine.specs.Laws.PerformedLaws.{by_ways}
-use Rattle.machine.specs.Laws.CommandAgrees.{command_complete}
+use Rattle.machine.proofs.Laws.PerformedLaws.{by_ways}
+use Rattle.machine.proofs.Laws.CommandAgrees.{command_complete}
 use Rattle.run.specs.Turns.{chosen}
 use Rattle.run.specs.Runs.{picked}
-use Rattle.run.specs.Laws.TurnLaws.{holder_chosen, holders_represent}
+use Rattle.run.proofs.Laws.TurnLaws.{holder_chosen, holders_represent}
 use Rattle.orders.specs.Orders.{Ordered.no_turn, Ordered.a_turn, Turns, Turns.no_byte, Turns.a_byte}
 use Rattle.orders.specs.Laws.CommandPlan.{stuck_next}
 use Rattle.orders.specs.Laws.Holding.{Holds, filled_code, counted}

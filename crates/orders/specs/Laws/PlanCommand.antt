@@ -21,12 +21,12 @@ use Rattle.machine.specs.Machine.{Tagged, tagged, Instance, Machine, Out, Out.ne
 use Rattle.machine.specs.Machine.{with_stability}
 use Rattle.machine.specs.Machine.{put, leaves_stable, write_to, operated}
 use Rattle.machine.specs.Machine.{perform, command, acting, Source.variable, Source.local, Source.result}
-use Rattle.machine.specs.Laws.PerformedLaws.{performs}
+use Rattle.machine.proofs.Laws.PerformedLaws.{performs}
 use Rattle.sound.specs.Firm.{Firm}
-use Rattle.sound.specs.Laws.Keeps.{env_set}
-use Rattle.sound.specs.Laws.Outcomes.{negated, branched, operates, has_read, leaves_null, writes_param, writes_local}
+use Rattle.sound.proofs.Laws.Keeps.{env_set}
+use Rattle.sound.proofs.Laws.Outcomes.{negated, branched, operates, has_read, leaves_null, writes_param, writes_local}
 use Rattle.std.proofs.Math.Decide.{ℕ_discrete}
-use Rattle.sound.specs.Laws.ElemLaws.{none_some, some_is}
+use Rattle.sound.proofs.Laws.ElemLaws.{none_some, some_is}
 use Rattle.orders.specs.Deeds.{Deed}
 use Rattle.orders.specs.Laws.Alter.{alter, set_alter, at_alter_same, at_alter_other}
 use Rattle.orders.specs.Laws.Plans.{Local.no_local, Local.a_local, Own, own, localized, owned, store, Plan, Plan.keeps, Plan.stores, applied, Plans}

@@ -15,28 +15,28 @@ use Rattle.commands.specs.Names.{names_of_steps, Had}
 use Rattle.commands.specs.Noted.{Note}
 use Rattle.commands.specs.Decide.{member}
 use Rattle.commands.specs.Decide.NamesDecide.{stepped}
-use Rattle.commands.specs.Decide.DecideLaws.{member_reflects}
+use Rattle.commands.proofs.Decide.DecideLaws.{member_reflects}
 use Rattle.table.specs.Table.{Record, TableRight}
 use Rattle.machine.specs.Published.{StepCall.global, called, of_item, of_items, Sched.done, Inst, Inst.inst, State, State.state}
 use Rattle.machine.specs.Rules.{started as starting}
 use Rattle.machine.specs.Machine.{Instance, Machine, Moved.next, started, move_by, move}
 use Rattle.machine.specs.Represents.{Represents}
-use Rattle.machine.specs.Laws.RepresentsLaws.{represents_map, Still}
-use Rattle.machine.specs.Laws.MoveAgrees.{started_represents}
+use Rattle.machine.proofs.Laws.RepresentsLaws.{represents_map, Still}
+use Rattle.machine.proofs.Laws.MoveAgrees.{started_represents}
 use Rattle.machine.specs.Measure.{codes}
 use Rattle.run.specs.Holders.{due}
 use Rattle.run.specs.Begin.{nulls, resting, first_instances, begin}
 use Rattle.run.specs.Initial.{first_insts, initial}
 use Rattle.run.specs.Runs.{Config.config}
 use Rattle.run.specs.Visits.{Acts.moves}
-use Rattle.run.specs.Laws.BeginLaws.{begin_stands}
-use Rattle.run.specs.Laws.TurnLaws.{holders_still, due_none}
+use Rattle.run.proofs.Laws.BeginLaws.{begin_stands}
+use Rattle.run.proofs.Laws.TurnLaws.{holders_still, due_none}
 use Rattle.sound.specs.Firm.{Firm}
 use Rattle.sound.specs.Invariant.{Good}
-use Rattle.sound.specs.Laws.AcceptedLaws.{accepted_firm}
-use Rattle.sound.specs.Laws.BeginGood.{begin_good}
-use Rattle.sound.specs.Laws.ElemLaws.{none_some, some_is}
-use Rattle.sound.specs.Laws.NeverStuckLaws.{acts_good}
+use Rattle.sound.proofs.Laws.AcceptedLaws.{accepted_firm}
+use Rattle.sound.proofs.Laws.BeginGood.{begin_good}
+use Rattle.sound.proofs.Laws.ElemLaws.{none_some, some_is}
+use Rattle.sound.proofs.Laws.NeverStuckLaws.{acts_good}
 use Rattle.orders.specs.Orders.{Turns}
 use Rattle.orders.specs.Touches.{Apart}
 use Rattle.orders.specs.OrderFree.{OrderFree}

@@ -8,14 +8,14 @@ use Rattle.types.specs.Stages.{Stage.went}
 use Rattle.blocks.specs.Images.{stream}
 use Rattle.program.specs.Tree.{Step, Program}
 use Rattle.commands.specs.Decide.{member}
-use Rattle.commands.specs.Decide.DecideLaws.{member_reflects}
+use Rattle.commands.proofs.Decide.DecideLaws.{member_reflects}
 use Rattle.commands.specs.Decide.NamesDecide.{stepped}
 use Rattle.commands.specs.Names.{names_of_steps, Had}
 use Rattle.verdict.specs.ProgramInput.{AcceptedImage, reads_of}
-use Rattle.verdict.specs.ProgramInputLaws.{one_program}
+use Rattle.verdict.proofs.ProgramInputLaws.{one_program}
 use Rattle.table.specs.Table.{Record}
 use Rattle.table.specs.TableReader.{table_of_stream}
-use Rattle.table.specs.Laws.TableLaws.{table_answer_exact}
+use Rattle.table.proofs.Laws.TableLaws.{table_answer_exact}
 use Rattle.orders.specs.StepInput.{ReadsBoth, NoStep}
 use Rattle.orders.specs.Laws.StepAnswerLaws.{stepped_had}
 

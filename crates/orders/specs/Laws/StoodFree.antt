@@ -10,16 +10,16 @@ use Rattle.machine.specs.Published.{Sched, Env, Inst, Inst.inst, State, State.st
 use Rattle.machine.specs.Stops.{Full, Full.no_label, Exceeded, Exceeded.no_result, full, exceeded}
 use Rattle.machine.specs.Machine.{Instance, Machine, Out.refused, command}
 use Rattle.machine.specs.Represents.{Represents}
-use Rattle.machine.specs.Laws.RepresentsLaws.{instance_at, no_code, Still, still_done, represents_unique}
-use Rattle.machine.specs.Laws.CommandAgrees.{command_full, command_exceeded}
+use Rattle.machine.proofs.Laws.RepresentsLaws.{instance_at, no_code, Still, still_done, represents_unique}
+use Rattle.machine.proofs.Laws.CommandAgrees.{command_full, command_exceeded}
 use Rattle.run.specs.Turns.{holders_of, chosen}
 use Rattle.run.specs.Holders.{holders, due}
 use Rattle.run.specs.Runs.{Due, Config, Config.config, picked, Halts, Halts.at_end, Halts.at_33, Halts.at_34, Halts.at_35}
 use Rattle.run.specs.Runs.{Step as RunStep, Step.takes}
 use Rattle.run.specs.Steps.{Steps, Steps.here, Steps.reads as taking}
-use Rattle.run.specs.Laws.TurnLaws.{due_still, chosen_holds, holders_represent}
+use Rattle.run.proofs.Laws.TurnLaws.{due_still, chosen_holds, holders_represent}
 use Rattle.sound.specs.Firm.{Firm}
-use Rattle.sound.specs.Laws.ElemLaws.{all_elem}
+use Rattle.sound.proofs.Laws.ElemLaws.{all_elem}
 use Rattle.orders.specs.Orders.{Ordered, Ordered.no_turn, Ordered.a_turn, Refused, Turns, Turns.no_byte, Turns.a_byte}
 use Rattle.orders.specs.Touches.{Apart}
 use Rattle.orders.specs.OrderFree.{OrderFree}

@@ -6,7 +6,7 @@ use Rattle.machine.specs.Published.{State}
 use Rattle.machine.specs.Stops.{Full, Exceeded, full, exceeded}
 use Rattle.machine.specs.Machine.{Machine, Out.refused, command}
 use Rattle.machine.specs.Represents.{Represents}
-use Rattle.machine.specs.Laws.CommandAgrees.{command_full, command_exceeded, command_numbers}
+use Rattle.machine.proofs.Laws.CommandAgrees.{command_full, command_exceeded, command_numbers}
 use Rattle.run.specs.Holders.{due}
 use Rattle.run.specs.Runs.{Config.config, Halts, Halts.at_34, Halts.at_35}
 use Rattle.sound.specs.Firm.{Firm}

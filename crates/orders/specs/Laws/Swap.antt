@@ -9,7 +9,7 @@ use Rattle.types.specs.Values.{Val}
 use Rattle.program.specs.Tree.{Program}
 use Rattle.machine.specs.Published.{Env, Env.env, lookup, assign}
 use Rattle.machine.specs.Machine.{Instance, Machine, with_instances, with_stability}
-use Rattle.sound.specs.Laws.ElemLaws.{none_some, some_is, at_set_other}
+use Rattle.sound.proofs.Laws.ElemLaws.{none_some, some_is, at_set_other}
 use Rattle.orders.specs.Deeds.{Deed, Deed.nothing, Deed.reads, Deed.writes, Clash}
 use Rattle.orders.specs.Laws.Alter.{alter, at_alter_same, at_alter_other}
 use Rattle.orders.specs.Laws.Plans.{Local, Local.no_local, Local.a_local, Own, localized, owned, store, Plan, Plan.keeps, Plan.stores, made, entries}

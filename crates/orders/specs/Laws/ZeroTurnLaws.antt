@@ -12,16 +12,16 @@ use Rattle.std.proofs.Math.ListN.{get_elem?}
 use Rattle.program.specs.Tree.{Program}
 use Rattle.commands.specs.Noted.{Note}
 use Rattle.machine.specs.Machine.{Instance, Machine, Out, Out.next, Out.refused, Out.stuck, command}
-use Rattle.machine.specs.Laws.RepresentsLaws.{Still}
+use Rattle.machine.proofs.Laws.RepresentsLaws.{Still}
 use Rattle.machine.specs.Measure.{total, codes}
-use Rattle.machine.specs.Laws.MeasureLaws.{command_shortens}
+use Rattle.machine.proofs.Laws.MeasureLaws.{command_shortens}
 use Rattle.run.specs.Holders.{due}
-use Rattle.run.specs.Laws.TurnLaws.{holders_still, due_none}
+use Rattle.run.proofs.Laws.TurnLaws.{holders_still, due_none}
 use Rattle.sound.specs.Firm.{Firm}
 use Rattle.sound.specs.Invariant.{Good}
-use Rattle.sound.specs.Laws.Advance.{Kept}
-use Rattle.sound.specs.Laws.CommandKept.{Refused}
-use Rattle.sound.specs.Laws.NeverStuckLaws.{taken_kept}
+use Rattle.sound.proofs.Laws.Advance.{Kept}
+use Rattle.sound.proofs.Laws.CommandKept.{Refused}
+use Rattle.sound.proofs.Laws.NeverStuckLaws.{taken_kept}
 use Rattle.orders.specs.Deeds.{Deed, Deed.reads, Deed.writes, Act, Clash}
 use Rattle.orders.specs.Following.{deed_at, deeds_of, onto}
 use Rattle.orders.specs.Marks.{Mark, Mark.untouched, Mark.read_by, Mark.read_by_two, Mark.written_by, Marks, Noted, Noted.noted, Noted.met, note}

@@ -19,7 +19,7 @@ use Rattle.commands.specs.Noted.{now_written}
 use Rattle.commands.specs.Tags.{Asks}
 use Rattle.operators.specs.Apply.{Answer, Answer.value, Answer.outside, Answer.unfit, apply}
 use Rattle.operators.specs.Ranges.{Fits as Answers}
-use Rattle.operators.specs.Laws.RangesLaws.{apply_fits}
+use Rattle.operators.proofs.Laws.RangesLaws.{apply_fits}
 use Rattle.machine.specs.Published.{Env.env, lookup, assign, structs, arity}
 use Rattle.machine.specs.Rules.{meet}
 use Rattle.machine.specs.Machine.{Tagged, tagged, Source.variable, Source.local, Source.result, given_by, Instance, Machine, Out, Out.next, Out.refused}
@@ -28,15 +28,15 @@ use Rattle.machine.specs.Machine.{write_to, operated, perform, command}
 use Rattle.run.specs.Begin.{resting}
 use Rattle.sound.specs.Invariant.{Job, written_in, Fits, Passage, Good}
 use Rattle.sound.specs.Firm.{Firm}
-use Rattle.sound.specs.Laws.ElemLaws.{some_is, at_set_same, at_set_other}
-use Rattle.sound.specs.Laws.EachLaws.{each_length}
-use Rattle.sound.specs.Laws.EnvLaws.{param_holds, other_kept, local_kept, local_holds}
-use Rattle.sound.specs.Laws.Keeps.{env_set}
-use Rattle.sound.specs.Laws.ValueLaws.{bool_value, label_value, ranges}
-use Rattle.sound.specs.Laws.PassageLaws.{holder_passage, first_held, ctx, here, tops, top_one, top_two, own_top, local_value, asks, next_sized}
-use Rattle.sound.specs.Laws.Outcomes.{negated, branched, operates, has_read, leaves_null, writes_param, writes_local, constructs, finds_full}
-use Rattle.sound.specs.Laws.CommandKept.{commanded, turning_good}
-use Rattle.sound.specs.Laws.ReadyLaws.{written_now}
+use Rattle.sound.proofs.Laws.ElemLaws.{some_is, at_set_same, at_set_other}
+use Rattle.sound.proofs.Laws.EachLaws.{each_length}
+use Rattle.sound.proofs.Laws.EnvLaws.{param_holds, other_kept, local_kept, local_holds}
+use Rattle.sound.proofs.Laws.Keeps.{env_set}
+use Rattle.sound.proofs.Laws.ValueLaws.{bool_value, label_value, ranges}
+use Rattle.sound.proofs.Laws.PassageLaws.{holder_passage, first_held, ctx, here, tops, top_one, top_two, own_top, local_value, asks, next_sized}
+use Rattle.sound.proofs.Laws.Outcomes.{negated, branched, operates, has_read, leaves_null, writes_param, writes_local, constructs, finds_full}
+use Rattle.sound.proofs.Laws.CommandKept.{commanded, turning_good}
+use Rattle.sound.proofs.Laws.ReadyLaws.{written_now}
 use Rattle.paused.specs.Laws.SpotLaws.{written_less}
 use Rattle.paused.specs.Alike.{AlikeInst, AlikeAll, Alike}
 use Rattle.paused.specs.Laws.AlikeWrites.{params_assign, params_local, stable_local, set_asks, now_in}

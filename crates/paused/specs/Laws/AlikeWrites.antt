@@ -16,7 +16,7 @@ use Rattle.machine.specs.Published.{Env, Env.env, assign, arity}
 use Rattle.machine.specs.Machine.{Source.local}
 use Rattle.machine.specs.Machine.{leaves_stable}
 use Rattle.run.specs.Begin.{params_in}
-use Rattle.sound.specs.Laws.EnvLaws.{param_set, local_set}
+use Rattle.sound.proofs.Laws.EnvLaws.{param_set, local_set}
 
 pub params_assign : (ξ η : Env) → params_in ξ ≡ params_in η → (v : ℕ) (x : Val) → v < first_local → params_in (assign ξ v x) ≡ params_in (assign η v x)
 params_assign (env ps ls) (env qs ks) e v x h = rw (param_set ps ls v x h, param_set qs ks v x h) (ap (λ zs. set zs v x) e)

@@ -13,14 +13,14 @@ use Rattle.types.specs.Limits.{max_locals, max_instances}
 use Rattle.types.specs.Types.{Ty, Ty.int, Ty.ref}
 use Rattle.types.specs.TypeBytes.{ValueIn, ValueOf}
 use Rattle.types.specs.Values.{Val, Val.int_val, Val.nat_val, Val.bool_val, Val.label, word, value_of}
-use Rattle.types.specs.Laws.ValueLaws.{value_of_word, value_as}
+use Rattle.types.proofs.Laws.ValueLaws.{value_of_word, value_as}
 use Rattle.program.specs.Tree.{Stmts, Program}
 use Rattle.commands.specs.Accepted.{Accepted}
 use Rattle.commands.specs.Context.{Ctx, params_of, body_local, context, step_of}
 use Rattle.commands.specs.Noted.{Note, noted}
 use Rattle.commands.specs.Living.{alive, lives, Among}
 use Rattle.commands.specs.Secure.{Secure, Secure.stop}
-use Rattle.commands.specs.Laws.SecureWays.{way_secure}
+use Rattle.commands.proofs.Laws.SecureWays.{way_secure}
 use Rattle.table.specs.Table.{Each}
 use Rattle.machine.specs.Published.{StepCall.global, called, Env.env, structs}
 use Rattle.machine.specs.Machine.{Tagged, tagged, Instance}
@@ -28,9 +28,9 @@ use Rattle.sound.specs.Needs.{ValueAmong}
 use Rattle.sound.specs.Invariant.{Job, Job.call, InJob.in_call, written_in}
 use Rattle.sound.specs.Invariant.{Fits, Fitted, Place.resting, Place.passing, GoodInst, Good, Nulls}
 use Rattle.sound.specs.Firm.{Firm}
-use Rattle.sound.specs.Laws.AcceptedLaws.{accepted_firm}
-use Rattle.sound.specs.Laws.ElemLaws.{at_map, map_at, at_below}
-use Rattle.sound.specs.Laws.EnvLaws.{local_at}
+use Rattle.sound.proofs.Laws.AcceptedLaws.{accepted_firm}
+use Rattle.sound.proofs.Laws.ElemLaws.{at_map, map_at, at_below}
+use Rattle.sound.proofs.Laws.EnvLaws.{local_at}
 use Rattle.paused.specs.Rise.{rise, shape}
 use Rattle.paused.specs.Place.{schedule_at, job_at}
 use Rattle.paused.specs.Spot.{Spot, spot_at, spot, spot_by}

@@ -14,7 +14,7 @@ use Rattle.sound.specs.Invariant.{Job}
 use Rattle.run.specs.Begin.{params_in}
 use Rattle.sound.specs.NeverStuck.{NeverStuck}
 use Rattle.sound.specs.Tabled.{TabledInst, Tabled}
-use Rattle.sound.specs.Laws.ElemLaws.{some_is, map_at, all_elem}
+use Rattle.sound.proofs.Laws.ElemLaws.{some_is, map_at, all_elem}
 use Rattle.paused.specs.Place.{job_at}
 use Rattle.paused.specs.Spot.{Spot, spot_by}
 use Rattle.paused.specs.Paused.{Held, Paused}
@@ -22,7 +22,7 @@ use Rattle.paused.specs.Allowed.{CountedHeld, CountedPaused, Allowed}
 use Rattle.paused.specs.Resumed.{valued, in_spot, at_position, instance_of, resumed}
 use Rattle.paused.specs.Laws.AllowedGood.{struct_kept, allowed_good}
 use Rattle.sound.specs.Startable.{Startable}
-use Rattle.sound.specs.Laws.NeverStuckLaws.{never_stuck}
+use Rattle.sound.proofs.Laws.NeverStuckLaws.{never_stuck}
 
 default_value : (t : Ty) → value_of t (word (default t)) ≡ default t
 unfolding value_of word default int_word word_int

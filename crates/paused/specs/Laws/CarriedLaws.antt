@@ -7,7 +7,7 @@ use Rattle.std.proofs.Math.Seq.{take-append_seam}
 use Rattle.types.specs.Numbers.{out_of_turns}
 use Rattle.types.specs.Stages.{Stage.went}
 use Rattle.blocks.specs.Images.{image, pieces}
-use Rattle.blocks.specs.ImageLaws.{image_length}
+use Rattle.blocks.proofs.ImageLaws.{image_length}
 use Rattle.program.specs.Tree.{Program}
 use Rattle.commands.specs.Accepted.{Accepted}
 use Rattle.table.specs.Table.{enc_table}
@@ -16,8 +16,8 @@ use Rattle.run.specs.Holders.{holders, due}
 use Rattle.run.specs.Run.{Outcome, Outcome.stopped, Outcome.jammed, run}
 use Rattle.run.specs.Entry.{last_stream}
 use Rattle.sound.specs.Startable.{Startable}
-use Rattle.sound.specs.Laws.AcceptedLaws.{accepted_firm}
-use Rattle.sound.specs.Laws.NeverStuckLaws.{never_stuck}
+use Rattle.sound.proofs.Laws.AcceptedLaws.{accepted_firm}
+use Rattle.sound.proofs.Laws.NeverStuckLaws.{never_stuck}
 use Rattle.paused.specs.Paused.{Paused}
 use Rattle.paused.specs.Resumed.{resumed}
 use Rattle.paused.specs.PausedOf.{paused_of}

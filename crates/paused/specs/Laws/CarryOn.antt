@@ -18,13 +18,13 @@ use Rattle.machine.specs.Stops.{out_of_turns}
 use Rattle.run.specs.Begin.{table_of}
 use Rattle.run.specs.Holders.{holders, due}
 use Rattle.run.specs.Run.{Outcome.stopped, run}
-use Rattle.run.specs.Laws.RunAgreesVisits.{run_visits}
+use Rattle.run.proofs.Laws.RunAgreesVisits.{run_visits}
 use Rattle.sound.specs.Invariant.{Job}
 use Rattle.sound.specs.Startable.{Startable}
 use Rattle.sound.specs.Firm.{Firm}
-use Rattle.sound.specs.Laws.AcceptedLaws.{accepted_firm}
-use Rattle.sound.specs.Laws.NeverStuckLaws.{never_stuck}
-use Rattle.sound.specs.Laws.StartableLaws.{visits_startable}
+use Rattle.sound.proofs.Laws.AcceptedLaws.{accepted_firm}
+use Rattle.sound.proofs.Laws.NeverStuckLaws.{never_stuck}
+use Rattle.sound.proofs.Laws.StartableLaws.{visits_startable}
 use Rattle.paused.specs.Place.{place_of, job_at}
 use Rattle.paused.specs.Spot.{spot_at, spot, position_left}
 use Rattle.paused.specs.Paused.{Held, Paused}

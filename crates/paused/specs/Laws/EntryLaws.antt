@@ -7,9 +7,9 @@ use Rattle.std.proofs.Math.ListN.{length-append}
 use Rattle.types.specs.Limits.{max_commands, max_turns}
 use Rattle.types.specs.Numbers.{out_of_turns}
 use Rattle.types.specs.Orders.{Order, Foremost, Numbered, Tells.refuses, Tells.passes}
-use Rattle.types.specs.Laws.OrderLaws.{foremost_numbered}
+use Rattle.types.proofs.Laws.OrderLaws.{foremost_numbered}
 use Rattle.types.specs.Stages.{Stage, Stage.went, on, Went, Stages}
-use Rattle.types.specs.Laws.StageLaws.{stage_refused}
+use Rattle.types.proofs.Laws.StageLaws.{stage_refused}
 use Rattle.blocks.specs.Images.{image}
 use Rattle.program.specs.Tree.{Program}
 use Rattle.verdict.specs.ProgramInput.{AcceptedImage}
@@ -19,9 +19,9 @@ use Rattle.run.specs.Begin.{begin}
 use Rattle.run.specs.Run.{Outcome, Outcome.stopped as ended, Outcome.jammed, run}
 use Rattle.run.specs.Entry.{Report, report, run_report, run_output, run_list}
 use Rattle.run.specs.Entry.{report_of as table_report_of, output_of as table_output_of}
-use Rattle.run.specs.Laws.InputLaws.{ready_runs}
+use Rattle.run.proofs.Laws.InputLaws.{ready_runs}
 use Rattle.sound.specs.Startable.{Startable}
-use Rattle.sound.specs.Laws.StartableLaws.{begin_startable}
+use Rattle.sound.proofs.Laws.StartableLaws.{begin_startable}
 use Rattle.paused.specs.Paused.{Paused}
 use Rattle.paused.specs.Resumed.{resumed}
 use Rattle.paused.specs.PausedOf.{paused_of}

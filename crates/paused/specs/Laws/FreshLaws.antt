@@ -14,7 +14,7 @@ use Rattle.commands.specs.Context.{Ctx}
 use Rattle.commands.specs.Noted.{Note, Note.n_push, Note.n_this, Note.n_not, Note.n_rd, Note.n_wr, Note.n_get, Note.n_set, Note.n_cons, Note.n_op}
 use Rattle.commands.specs.Noted.{Note.n_if}
 use Rattle.commands.specs.Tags.{Tags, is_this, jump, at_start, Way, Way.start, Way.on, Way.over}
-use Rattle.commands.specs.Laws.SecureWays.{way_short}
+use Rattle.commands.proofs.Laws.SecureWays.{way_short}
 use Rattle.paused.specs.Rise.{puts_on, rise}
 use Rattle.paused.specs.Standing.{AfterThis}
 use Rattle.paused.specs.Decide.{this_at, after_this}

@@ -12,10 +12,10 @@ use Rattle.commands.specs.Noted.{Note}
 use Rattle.machine.specs.Machine.{Instance, Machine}
 use Rattle.run.specs.Turns.{labels_from}
 use Rattle.run.specs.Holders.{holds_code, flag, flags, holders, due}
-use Rattle.run.specs.Laws.TurnLaws.{due_still, holders_length}
+use Rattle.run.proofs.Laws.TurnLaws.{due_still, holders_length}
 use Rattle.sound.specs.Startable.{Startable}
 use Rattle.sound.specs.Invariant.{Job}
-use Rattle.sound.specs.Laws.ElemLaws.{all_elem, map_at, none_some}
+use Rattle.sound.proofs.Laws.ElemLaws.{all_elem, map_at, none_some}
 use Rattle.paused.specs.Paused.{Held, Paused, has_position, holding_in}
 use Rattle.paused.specs.Place.{place_of, job_at}
 use Rattle.paused.specs.Allowed.{CountedPaused, Allowed}

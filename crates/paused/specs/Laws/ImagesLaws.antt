@@ -6,9 +6,9 @@ use Rattle.std.proofs.Common.{sym, ◌∙◌}
 use Rattle.block.specs.Sums.{Bytes}
 use Rattle.block.specs.declared.Found.TheVariants.{Right}
 use Rattle.blocks.specs.Images.{fault, image, pieces}
-use Rattle.blocks.specs.FaultLaws.{fault_exact}
-use Rattle.blocks.specs.ImageLaws.{image_length}
-use Rattle.blocks.specs.ImageRoundTrip.{one_image}
+use Rattle.blocks.proofs.FaultLaws.{fault_exact}
+use Rattle.blocks.proofs.ImageLaws.{image_length}
+use Rattle.blocks.proofs.ImageRoundTrip.{one_image}
 use Rattle.program.specs.Tree.{Program}
 use Rattle.commands.specs.Accepted.{Accepted}
 use Rattle.verdict.specs.ProgramInput.{ImageRight}
@@ -16,7 +16,7 @@ use Rattle.machine.specs.Machine.{Machine}
 use Rattle.run.specs.Holders.{due}
 use Rattle.run.specs.Visits.{Visits}
 use Rattle.sound.specs.Startable.{Startable}
-use Rattle.sound.specs.Laws.StartableLaws.{visits_startable}
+use Rattle.sound.proofs.Laws.StartableLaws.{visits_startable}
 use Rattle.paused.specs.Paused.{Paused}
 use Rattle.paused.specs.PausedOf.{paused_of}
 use Rattle.paused.specs.Stream.{enc_paused}

@@ -19,11 +19,11 @@ use Rattle.program.specs.Counts.{Few, CountsStep, Counts}
 use Rattle.commands.specs.Accepted.{Accepted}
 use Rattle.commands.specs.Context.{body_local, context, find_step, step_of}
 use Rattle.commands.specs.Noted.{Note, noted}
-use Rattle.commands.specs.Steps.{of_each}
+use Rattle.commands.proofs.Steps.{of_each}
 use Rattle.table.specs.Table.{Each}
 use Rattle.sound.specs.Invariant.{Job}
-use Rattle.sound.specs.Laws.AcceptedLaws.{all_at}
-use Rattle.sound.specs.Laws.ElemLaws.{none_some}
+use Rattle.sound.proofs.Laws.AcceptedLaws.{all_at}
+use Rattle.sound.proofs.Laws.ElemLaws.{none_some}
 use Rattle.paused.specs.Spot.{Spot, spot}
 use Rattle.paused.specs.Paused.{Held}
 use Rattle.paused.specs.Standing.{living, WordOf}

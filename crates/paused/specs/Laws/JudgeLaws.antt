@@ -17,7 +17,7 @@ use Rattle.commands.specs.Accepted.{Accepted}
 use Rattle.commands.specs.Context.{params_of}
 use Rattle.table.specs.Table.{Each}
 use Rattle.sound.specs.Invariant.{Job}
-use Rattle.sound.specs.Laws.ElemLaws.{none_some, some_is}
+use Rattle.sound.proofs.Laws.ElemLaws.{none_some, some_is}
 use Rattle.paused.specs.Place.{schedule_at, job_at}
 use Rattle.paused.specs.Paused.{Held, Paused, has_position}
 use Rattle.paused.specs.Standing.{WordOf}

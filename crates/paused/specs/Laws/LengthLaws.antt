@@ -3,13 +3,13 @@ use Rattle.std.specs.Prelude.{ℕ, zero, suc, ◌*◌, ◌/◌, ◌≤◌, ◌�
 use Rattle.std.proofs.Common.{arith, ap, subst, length-append}
 use Rattle.blocks.specs.Images.{image}
 use Rattle.blocks.specs.Faults.{Says}
-use Rattle.blocks.specs.FaultLaws.{fault_says}
-use Rattle.blocks.specs.ImageRoundTrip.{image_accepted, image_stream}
+use Rattle.blocks.proofs.FaultLaws.{fault_says}
+use Rattle.blocks.proofs.ImageRoundTrip.{image_accepted, image_stream}
 use Rattle.program.specs.Tree.{Program}
 use Rattle.program.specs.Encoding.{enc_word, flat}
 use Rattle.program.specs.Counts.{All}
 use Rattle.commands.specs.Accepted.{Accepted}
-use Rattle.sound.specs.Laws.AcceptedLaws.{params_counted}
+use Rattle.sound.proofs.Laws.AcceptedLaws.{params_counted}
 use Rattle.table.specs.Table.{value_bytes, count_bytes}
 use Rattle.paused.specs.Paused.{Held, Paused}
 use Rattle.paused.specs.Allowed.{CountedHeld, CountedPaused, Allowed}

@@ -9,12 +9,12 @@ use Rattle.std.proofs.lemmas.List.{length-map}
 use Rattle.types.specs.Limits.{first_local, max_locals}
 use Rattle.types.specs.Types.{Ty, Ty.int}
 use Rattle.types.specs.Values.{Val, default, word}
-use Rattle.types.specs.Laws.ValueLaws.{value_as}
+use Rattle.types.proofs.Laws.ValueLaws.{value_as}
 use Rattle.program.specs.Tree.{Stmts, Program}
 use Rattle.commands.specs.Context.{Ctx, params_of, body_local, context}
 use Rattle.commands.specs.Noted.{Note, noted}
 use Rattle.commands.specs.Tags.{Tags, Way}
-use Rattle.commands.specs.Laws.SecureWays.{way_short}
+use Rattle.commands.proofs.Laws.SecureWays.{way_short}
 use Rattle.commands.specs.Living.{alive, lives}
 use Rattle.table.specs.Table.{Each}
 use Rattle.commands.specs.Accepted.{Accepted}
@@ -25,10 +25,10 @@ use Rattle.run.specs.Holders.{due}
 use Rattle.sound.specs.Needs.{ValueAmong}
 use Rattle.sound.specs.Invariant.{Job, Fits, Fitted, Passage, Place, Place.resting, Place.passing}
 use Rattle.sound.specs.Startable.{Startable}
-use Rattle.sound.specs.Laws.ElemLaws.{some_is, at_map, map_at}
-use Rattle.sound.specs.Laws.EachLaws.{each_map, each_of_map}
-use Rattle.sound.specs.Laws.HolderLaws.{chosen_holds}
-use Rattle.sound.specs.Laws.PassageLaws.{holder_passage, has_step, first_held}
+use Rattle.sound.proofs.Laws.ElemLaws.{some_is, at_map, map_at}
+use Rattle.sound.proofs.Laws.EachLaws.{each_map, each_of_map}
+use Rattle.sound.proofs.Laws.HolderLaws.{chosen_holds}
+use Rattle.sound.proofs.Laws.PassageLaws.{holder_passage, has_step, first_held}
 use Rattle.paused.specs.Place.{place_of, job_at, Begun}
 use Rattle.paused.specs.Spot.{Spot, spot}
 use Rattle.paused.specs.Paused.{Held}

@@ -18,12 +18,12 @@ use Rattle.commands.specs.Context.{params_of, body_local, context, step_of}
 use Rattle.commands.specs.Decide.{member}
 use Rattle.commands.specs.Living.{alive, lives}
 use Rattle.commands.specs.Noted.{Note, erase, noted}
-use Rattle.commands.specs.Steps.{of_each, found}
-use Rattle.commands.specs.Laws.NotedLaws.{erased}
+use Rattle.commands.proofs.Steps.{of_each, found}
+use Rattle.commands.proofs.Laws.NotedLaws.{erased}
 use Rattle.table.specs.Table.{Each}
-use Rattle.table.specs.Laws.ValueLaws.{value_of_word}
+use Rattle.table.proofs.Laws.ValueLaws.{value_of_word}
 use Rattle.machine.specs.Published.{called, Sched, of_item, of_items, Env, Env.env, lookup}
-use Rattle.machine.specs.Laws.CallLaws.{called_step}
+use Rattle.machine.proofs.Laws.CallLaws.{called_step}
 use Rattle.machine.specs.Machine.{Tagged, Instance, Machine}
 use Rattle.run.specs.Begin.{params_in}
 use Rattle.run.specs.Holders.{due}
@@ -31,11 +31,11 @@ use Rattle.sound.specs.Needs.{ValueAmong}
 use Rattle.sound.specs.Invariant.{Job, Job.call, Fits, Fitted, Place, Place.resting, Place.passing}
 use Rattle.sound.specs.Firm.{Firm}
 use Rattle.sound.specs.Startable.{Startable}
-use Rattle.sound.specs.Laws.AcceptedLaws.{accepted_firm, all_at}
-use Rattle.sound.specs.Laws.ElemLaws.{map_at, elem_all}
-use Rattle.sound.specs.Laws.EachLaws.{each_length}
-use Rattle.sound.specs.Laws.ReadyLaws.{good_right}
-use Rattle.sound.specs.Laws.ShallowLaws.{good_entries}
+use Rattle.sound.proofs.Laws.AcceptedLaws.{accepted_firm, all_at}
+use Rattle.sound.proofs.Laws.ElemLaws.{map_at, elem_all}
+use Rattle.sound.proofs.Laws.EachLaws.{each_length}
+use Rattle.sound.proofs.Laws.ReadyLaws.{good_right}
+use Rattle.sound.proofs.Laws.ShallowLaws.{good_entries}
 use Rattle.paused.specs.Place.{places, place_of, job_at}
 use Rattle.paused.specs.Spot.{step_notes, position_left}
 use Rattle.paused.specs.Standing.{among, living}

@@ -11,7 +11,7 @@ use Rattle.types.specs.Limits.{first_local, max_locals, max_instances}
 use Rattle.types.specs.Types.{Ty, Ty.int, Ty.ref}
 use Rattle.types.specs.TypeBytes.{ValueOf}
 use Rattle.types.specs.Values.{word, value_of}
-use Rattle.types.specs.Laws.ValueLaws.{value_of_word, value_as}
+use Rattle.types.proofs.Laws.ValueLaws.{value_of_word, value_as}
 use Rattle.program.specs.Tree.{Stmts, Program}
 use Rattle.commands.specs.Accepted.{Accepted}
 use Rattle.commands.specs.Context.{params_of, body_local, context}
@@ -21,9 +21,9 @@ use Rattle.commands.specs.Noted.{Note.n_this, noted}
 use Rattle.table.specs.Table.{Each}
 use Rattle.machine.specs.Published.{Env.env, lookup, structs}
 use Rattle.sound.specs.Invariant.{Job}
-use Rattle.sound.specs.Laws.AcceptedLaws.{accepted_firm}
-use Rattle.sound.specs.Laws.ElemLaws.{at_below}
-use Rattle.sound.specs.Laws.EnvLaws.{local_at}
+use Rattle.sound.proofs.Laws.AcceptedLaws.{accepted_firm}
+use Rattle.sound.proofs.Laws.ElemLaws.{at_below}
+use Rattle.sound.proofs.Laws.EnvLaws.{local_at}
 use Rattle.paused.specs.Rise.{shape}
 use Rattle.paused.specs.Place.{place_of, schedule_at, job_at}
 use Rattle.paused.specs.Spot.{spot_at, spot, spot_by}

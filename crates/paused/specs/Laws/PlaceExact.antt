@@ -10,7 +10,7 @@ use Rattle.program.specs.Tree.{Program}
 use Rattle.machine.specs.Published.{Sched, Sched.done, Sched.start, Sched.fixpoint, Sched.active}
 use Rattle.sound.specs.Invariant.{Job, Open, Open.open_done, Open.open_start, Open.open_fix, Open.open_active}
 use Rattle.sound.specs.Started.{Left, Left.whole as all_left, Left.past, Left.into, Left.out}
-use Rattle.sound.specs.Laws.ElemLaws.{none_some, some_is}
+use Rattle.sound.proofs.Laws.ElemLaws.{none_some, some_is}
 use Rattle.paused.specs.Place.{places, onward, left_at, first_job, whole, place_of, schedule_at, job_at, Begun}
 use Rattle.paused.specs.Judge.{opens}
 use Rattle.paused.specs.Laws.PlaceLaws.{onward_places}

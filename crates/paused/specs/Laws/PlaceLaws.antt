@@ -8,8 +8,8 @@ use Rattle.program.specs.Tree.{Program}
 use Rattle.machine.specs.Published.{StepCall, Sched, Sched.done, Sched.start, Sched.fixpoint, Sched.active, before}
 use Rattle.sound.specs.Invariant.{Job, Job.call, Running, Unbegun, Open, Open.open_start, Open.open_fix, Open.open_active}
 use Rattle.sound.specs.Started.{Left, Left.whole as all_left, Left.past, Left.into, Left.again, Left.out}
-use Rattle.sound.specs.Laws.MoveKept.{open_before}
-use Rattle.sound.specs.Laws.BeginGood.{open_items}
+use Rattle.sound.proofs.Laws.MoveKept.{open_before}
+use Rattle.sound.proofs.Laws.BeginGood.{open_items}
 use Rattle.paused.specs.Place.{places, onward, left_at, first_job, whole, place_of, schedule_at, job_at, Begun}
 
 before_places : (f s : Sched) → places (before f s) ≡ places f + places s

@@ -11,7 +11,7 @@ use Rattle.types.specs.Limits.{first_local, max_locals, max_instances}
 use Rattle.types.specs.Types.{Ty, Ty.int, Ty.ref}
 use Rattle.types.specs.TypeBytes.{ValueOf}
 use Rattle.types.specs.Values.{Val, Val.label, word, value_of}
-use Rattle.types.specs.Laws.ValueLaws.{value_of_word, value_as}
+use Rattle.types.proofs.Laws.ValueLaws.{value_of_word, value_as}
 use Rattle.program.specs.Tree.{Stmts, Program}
 use Rattle.commands.specs.Accepted.{Accepted}
 use Rattle.commands.specs.Context.{params_of, body_local, context}
@@ -26,11 +26,11 @@ use Rattle.sound.specs.Needs.{ValueAmong}
 use Rattle.sound.specs.Invariant.{Job, Fits, Fitted, Place, Place.resting, Place.passing}
 use Rattle.sound.specs.Firm.{Firm}
 use Rattle.sound.specs.Startable.{Startable}
-use Rattle.sound.specs.Laws.AcceptedLaws.{accepted_firm}
-use Rattle.sound.specs.Laws.ElemLaws.{at_map, at_below}
-use Rattle.sound.specs.Laws.EnvLaws.{local_at}
-use Rattle.sound.specs.Laws.ValueLaws.{label_value}
-use Rattle.sound.specs.Laws.PassageLaws.{has_step}
+use Rattle.sound.proofs.Laws.AcceptedLaws.{accepted_firm}
+use Rattle.sound.proofs.Laws.ElemLaws.{at_map, at_below}
+use Rattle.sound.proofs.Laws.EnvLaws.{local_at}
+use Rattle.sound.proofs.Laws.ValueLaws.{label_value}
+use Rattle.sound.proofs.Laws.PassageLaws.{has_step}
 use Rattle.paused.specs.Rise.{rise, shape}
 use Rattle.paused.specs.Place.{place_of, job_at}
 use Rattle.paused.specs.Spot.{spot_at, spot_by}

@@ -10,13 +10,13 @@ use Rattle.std.proofs.Math.ListN.{length}
 use Rattle.program.specs.Tree.{Stmts, Program}
 use Rattle.commands.specs.Context.{context, step_of}
 use Rattle.commands.specs.Noted.{Note, noted}
-use Rattle.machine.specs.Laws.CallLaws.{called_step}
+use Rattle.machine.proofs.Laws.CallLaws.{called_step}
 use Rattle.machine.specs.Published.{called}
 use Rattle.machine.specs.Machine.{Instance}
-use Rattle.commands.specs.Laws.SecureWays.{way_short}
+use Rattle.commands.proofs.Laws.SecureWays.{way_short}
 use Rattle.sound.specs.Invariant.{Job, Job.call, InJob, InJob.in_call, written_in, Passage}
-use Rattle.sound.specs.Laws.ElemLaws.{none_some, some_is}
-use Rattle.sound.specs.Laws.PassageLaws.{first_held}
+use Rattle.sound.proofs.Laws.ElemLaws.{none_some, some_is}
+use Rattle.sound.proofs.Laws.PassageLaws.{first_held}
 use Rattle.paused.specs.Spot.{Spot, spot_at, step_spot, spot, step_notes, position_left}
 
 module _ (p : Program) (k : ℕ) where

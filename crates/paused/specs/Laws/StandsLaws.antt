@@ -14,7 +14,7 @@ use Rattle.commands.specs.Tags.{Tags, at_start, Way}
 use Rattle.table.specs.Table.{Each}
 use Rattle.machine.specs.Published.{Sched, structs}
 use Rattle.sound.specs.Invariant.{Job, Open}
-use Rattle.sound.specs.Laws.ElemLaws.{none_some, some_is}
+use Rattle.sound.proofs.Laws.ElemLaws.{none_some, some_is}
 use Rattle.paused.specs.Place.{place_of, Begun}
 use Rattle.paused.specs.Spot.{Spot, spot_at, spot}
 use Rattle.paused.specs.Paused.{Held, Paused}

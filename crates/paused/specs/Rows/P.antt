@@ -1,10 +1,10 @@
 -- 01's P paused and carried on (02, 'Pausing a run'; docs/PAUSED.md, 'P, byte by byte'), facts by computation.
 use Rattle.std.specs.Prelude.{ℕ, ◌≡◌, refl, List, [], ◌∷◌, ◌++◌, replicate, set}
 use Rattle.program.specs.Rows.{program, adding, addings}
-use Rattle.verdict.specs.Rows.{P}
+use Rattle.verdict.proofs.Rows.{P}
 use Rattle.run.specs.EntryStreams.{summary}
-use Rattle.run.specs.Rows.RowsOpen.{running}
-use Rattle.run.specs.Rows.RowPrograms.{cell, cells}
+use Rattle.run.proofs.Rows.RowsOpen.{running}
+use Rattle.run.proofs.Rows.RowPrograms.{cell, cells}
 use Rattle.paused.specs.Rows.RowsOpen.{pausing, carrying, judged}
 
 -- the table (5,2),(7,1) and the table that 24 zeros leave

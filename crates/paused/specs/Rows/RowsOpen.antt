@@ -7,12 +7,12 @@ use Rattle.program.specs.Reader.{whole}
 use Rattle.commands.specs.Bounds.{program_depth}
 use Rattle.commands.specs.Decide.{member}
 use Rattle.commands.specs.Living.{live_walk, live_expr, live_exprs, live_stmt, live_body, lives}
-use Rattle.verdict.specs.Rows.{checking}
+use Rattle.verdict.proofs.Rows.{checking}
 use Rattle.run.specs.Holders.{holders}
 use Rattle.run.specs.Run.{Outcome, Outcome.stopped as ended, Outcome.jammed, run}
 use Rattle.run.specs.Entry.{no_number}
 use Rattle.run.specs.EntryStreams.{Summary, summary, begins_streams}
-use Rattle.run.specs.Rows.RowsOpen.{running}
+use Rattle.run.proofs.Rows.RowsOpen.{running}
 use Rattle.paused.specs.Paused.{has_position}
 use Rattle.paused.specs.Rise.{rise, left_by, shape}
 use Rattle.paused.specs.Place.{places, onward, left_at, first_job, job_at}

@@ -11,7 +11,7 @@ use Rattle.types.specs.Types.{Ty}
 use Rattle.little_endian.specs.Numbers.{word_at}
 use Rattle.program.specs.Reader.{byte_end}
 use Rattle.table.specs.Table.{value_bytes}
-use Rattle.sound.specs.Laws.ElemLaws.{none_some}
+use Rattle.sound.proofs.Laws.ElemLaws.{none_some}
 use Rattle.paused.specs.Paused.{Held}
 use Rattle.paused.specs.Resumed.{struct_in}
 use Rattle.paused.specs.Judge.{is_empty, same_words, nulls_hold}

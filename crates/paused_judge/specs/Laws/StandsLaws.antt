@@ -10,7 +10,7 @@ use Rattle.little_endian.specs.Numbers.{word_at}
 use Rattle.program.specs.Tree.{Program}
 use Rattle.machine.specs.Published.{StepCall, called, structs}
 use Rattle.sound.specs.Invariant.{Job.call}
-use Rattle.sound.specs.Laws.ElemLaws.{none_some, some_is}
+use Rattle.sound.proofs.Laws.ElemLaws.{none_some, some_is}
 use Rattle.memory.specs.Plan.{start_code, RangedCall}
 use Rattle.memory.specs.Move.{means}
 use Rattle.paused.specs.Spot.{step_spot, spot}

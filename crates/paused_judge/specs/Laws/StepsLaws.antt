@@ -17,11 +17,11 @@ use Rattle.commands.specs.Bounds.{step_size, Within}
 use Rattle.commands.specs.Commands.{commands}
 use Rattle.commands.specs.Context.{context, step_of}
 use Rattle.commands.specs.Noted.{noted}
-use Rattle.commands.specs.ProgramWordsLaws.{words_length}
-use Rattle.commands.specs.Steps.{of_each, found}
-use Rattle.judge.specs.Laws.ProgramTableLaws.{types_at}
+use Rattle.commands.proofs.ProgramWordsLaws.{words_length}
+use Rattle.commands.proofs.Steps.{of_each, found}
+use Rattle.judge.proofs.Laws.ProgramTableLaws.{types_at}
 use Rattle.machine.specs.Published.{StepCall, StepCall.global, StepCall.local, called, structs}
-use Rattle.sound.specs.Laws.AcceptedLaws.{params_counted, all_at}
+use Rattle.sound.proofs.Laws.AcceptedLaws.{params_counted, all_at}
 use Rattle.memory.specs.Plan.{start_code, RangedCall, from, to, Spans}
 use Rattle.memory.specs.Move.{means}
 use Rattle.table_read.specs.Params.{Tables as ParamTables}

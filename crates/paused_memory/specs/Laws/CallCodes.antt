@@ -7,12 +7,12 @@ use Rattle.types.specs.Limits.{step_names}
 use Rattle.program.specs.Tree.{Stmts, Program}
 use Rattle.commands.specs.Coding.{words}
 use Rattle.commands.specs.Commands.{commands}
-use Rattle.commands.specs.ProgramWordsLaws.{words_length}
+use Rattle.commands.proofs.ProgramWordsLaws.{words_length}
 use Rattle.commands.specs.Context.{context, step_of}
 use Rattle.commands.specs.Noted.{erase, noted}
-use Rattle.commands.specs.Laws.NotedLaws.{erased}
+use Rattle.commands.proofs.Laws.NotedLaws.{erased}
 use Rattle.machine.specs.Published.{StepCall, StepCall.global, StepCall.local, called, structs}
-use Rattle.sound.specs.Laws.ElemLaws.{none_some}
+use Rattle.sound.proofs.Laws.ElemLaws.{none_some}
 use Rattle.memory.specs.Plan.{start_code, RangedCall, Spans, Located}
 use Rattle.paused_memory.specs.InMemory.{step_from, step_to, step_size}
 

@@ -15,20 +15,20 @@ use Rattle.program.specs.Tree.{Stmts, Program}
 use Rattle.commands.specs.Accepted.{Accepted}
 use Rattle.commands.specs.Commands.{commands}
 use Rattle.commands.specs.Context.{params_of, step_of}
-use Rattle.commands.specs.Laws.SecureWays.{way_short}
+use Rattle.commands.proofs.Laws.SecureWays.{way_short}
 use Rattle.commands.specs.Living.{alive as living_now, lives}
 use Rattle.commands.specs.Noted.{Note, erase}
-use Rattle.commands.specs.ProgramWordsLaws.{words_length}
+use Rattle.commands.proofs.ProgramWordsLaws.{words_length}
 use Rattle.machine.specs.Published.{Env, Env.env, lookup, structs}
 use Rattle.machine.specs.Machine.{Tagged, Instance, Machine}
 use Rattle.run.specs.Begin.{params_in}
 use Rattle.run.specs.Holders.{holds_code}
 use Rattle.sound.specs.Needs.{ValueAmong}
 use Rattle.sound.specs.Invariant.{Job, InJob, InJob.in_call, Passage, Fitted}
-use Rattle.sound.specs.Laws.AcceptedLaws.{params_counted}
-use Rattle.sound.specs.Laws.EachLaws.{each_length}
-use Rattle.sound.specs.Laws.ElemLaws.{at_below}
-use Rattle.sound.specs.Laws.EnvLaws.{param_at}
+use Rattle.sound.proofs.Laws.AcceptedLaws.{params_counted}
+use Rattle.sound.proofs.Laws.EachLaws.{each_length}
+use Rattle.sound.proofs.Laws.ElemLaws.{at_below}
+use Rattle.sound.proofs.Laws.EnvLaws.{param_at}
 use Rattle.layout.specs.Layout.{next_of, end_of, variable, stacked, operand, holds}
 use Rattle.layout.specs.State.{State, of_head, of_cell}
 use Rattle.memory.specs.Stands.{Shows, Stack, bits, Held as HeldIn}

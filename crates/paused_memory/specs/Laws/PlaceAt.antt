@@ -12,8 +12,8 @@ use Rattle.program.specs.Tree.{Program}
 use Rattle.machine.specs.Published.{StepCall, Sched, Sched.done, Sched.start, Sched.fixpoint, Sched.active, before}
 use Rattle.sound.specs.Invariant.{Job, Job.call}
 use Rattle.sound.specs.Started.{Left, Started}
-use Rattle.sound.specs.Laws.BeginGood.{open_items}
-use Rattle.sound.specs.Laws.ElemLaws.{none_some}
+use Rattle.sound.proofs.Laws.BeginGood.{open_items}
+use Rattle.sound.proofs.Laws.ElemLaws.{none_some}
 use Rattle.layout.specs.Codes.{fix_code, end_code, round_code}
 use Rattle.memory.specs.Plan.{start_code, laid, laid_out, RangedCall, Ranged, At, At.at_end, At.at_start, At.at_fix, At.at_round}
 use Rattle.memory.specs.Laws.PlanLaws.{code_below, past_start, past_fix, past_round, at_end_done}

@@ -10,17 +10,17 @@ use Rattle.std.proofs.Math.ListN.{length, get_elem?, take}
 use Rattle.std.proofs.lemmas.List.{length-map}
 use Rattle.types.specs.Limits.{step_names}
 use Rattle.types.specs.Types.{Ty}
-use Rattle.types.specs.Laws.ListLaws.{map_drop}
+use Rattle.types.proofs.Laws.ListLaws.{map_drop}
 use Rattle.program.specs.Tree.{Stmts, Program}
 use Rattle.commands.specs.Accepted.{Accepted}
 use Rattle.commands.specs.Coding.{command_word, words}
 use Rattle.commands.specs.Commands.{commands}
 use Rattle.commands.specs.Context.{context, step_of}
 use Rattle.commands.specs.Noted.{erase, noted}
-use Rattle.commands.specs.Laws.NotedLaws.{erased}
+use Rattle.commands.proofs.Laws.NotedLaws.{erased}
 use Rattle.machine.specs.Published.{structs}
 use Rattle.machine.specs.Machine.{Instance}
-use Rattle.sound.specs.Laws.ElemLaws.{all_elem, map_at}
+use Rattle.sound.proofs.Laws.ElemLaws.{all_elem, map_at}
 use Rattle.layout.specs.State.{State, of_head}
 use Rattle.layout.specs.Layout.{next_of, end_of}
 use Rattle.memory.specs.Plan.{Located, At}

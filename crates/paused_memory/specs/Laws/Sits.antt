@@ -14,7 +14,7 @@ use Rattle.commands.specs.Noted.{Note}
 use Rattle.table.specs.Table.{Each}
 use Rattle.machine.specs.Published.{called}
 use Rattle.sound.specs.Invariant.{Job, Job.call, InJob, InJob.in_call}
-use Rattle.sound.specs.Laws.ElemLaws.{none_some, some_is}
+use Rattle.sound.proofs.Laws.ElemLaws.{none_some, some_is}
 use Rattle.memory.specs.Plan.{At}
 use Rattle.paused.specs.Place.{whole, job_at, Begun}
 use Rattle.paused.specs.Spot.{Spot, spot_at, step_spot, spot, spot_by}

@@ -4,7 +4,7 @@ use native.Mathlib.Omega.{arith}
 use lib.ListN.{take}
 use lib.Seq.{length-take-le}
 use Rattle.blocks.specs.Images.{stream}
-use Rattle.blocks.specs.OpeningLaws.{opened_fault, opened_stream, opened_front}
+use Rattle.blocks.proofs.OpeningLaws.{opened_fault, opened_stream, opened_front}
 use Rattle.paused_read.specs.Heads.{image_blocks}
 use Rattle.paused_open.specs.Laws.OpenedWays.{stream_shut, stream_none, stream_found}
 use borrow.Author.Rules.{rules}

@@ -16,7 +16,7 @@ use Rattle.types.specs.Numbers.{paused_stream, paused_state}
 use Rattle.block.specs.declared.Fault.{Fault}
 use Rattle.block.specs.declared.Found.TheVariants.{Right, Wrong}
 use Rattle.blocks.specs.Images.{fault, stream, opened}
-use Rattle.blocks.specs.OpeningLaws.{opened_stream}
+use Rattle.blocks.proofs.OpeningLaws.{opened_stream}
 use Rattle.paused.specs.Laws.Basics.{and_parts}
 use Rattle.paused_memory.specs.Places.{code_before}
 use Rattle.paused_read.specs.declared.Head.{Head}

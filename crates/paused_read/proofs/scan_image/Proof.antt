@@ -5,7 +5,7 @@ use lib.ListN.{take}
 use lib.Seq.{length-take-le}
 use Rattle.blocks.specs.declared.Opened.{Opened}
 use Rattle.blocks.specs.Images.{stream, opened_into}
-use Rattle.blocks.specs.OpeningLaws.{opened_fault, opened_stream, opened_front}
+use Rattle.blocks.proofs.OpeningLaws.{opened_fault, opened_stream, opened_front}
 use Rattle.paused_read.specs.Heads.{image_blocks}
 use Rattle.paused_read.specs.Laws.ImageScan.{image_shut, image_open}
 use borrow.Author.Rules.{rules}

@@ -10,8 +10,8 @@ use Rattle.block.specs.declared.Found.{Found}
 use Rattle.block.specs.declared.Found.TheVariants.{Right, Wrong}
 use Rattle.blocks.specs.Images.{LengthRight, count, fault, stream}
 use Rattle.blocks.specs.Faults.{Says}
-use Rattle.blocks.specs.FaultLaws.{fault_says, fault_exact}
-use Rattle.blocks.specs.ImageLaws.{count_length, stream_pieces}
+use Rattle.blocks.proofs.FaultLaws.{fault_says, fault_exact}
+use Rattle.blocks.proofs.ImageLaws.{count_length, stream_pieces}
 use Rattle.program.specs.Tree.{Program}
 use Rattle.program.specs.Reader.{Result, Result.ok, Result.bad, whole, byte_end}
 use Rattle.commands.specs.Accepted.{Accepted}

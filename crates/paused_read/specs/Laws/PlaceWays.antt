@@ -10,7 +10,7 @@ use Rattle.std.proofs.Math.ListN.{length, get_or}
 use borrow.Author.Tests.{lt-ltb, le-ltb, le-leb, lt-leb}
 use Rattle.types.specs.Limits.{max_depth, max_locals}
 use Rattle.table.specs.Table.{value_bytes}
-use Rattle.sound.specs.Laws.ElemLaws.{none_some}
+use Rattle.sound.proofs.Laws.ElemLaws.{none_some}
 use Rattle.paused_read.specs.declared.places.Next.{Next}
 use Rattle.paused_read.specs.declared.places.Next.TheVariants.{At, Nowhere}
 use Rattle.paused_read.specs.Scan.{next_on, reach, words_next, held_next, helds_next}

@@ -9,7 +9,7 @@ use Rattle.std.proofs.Math.Option.{Option, none, some}
 use Rattle.std.proofs.lemmas.Bool.{lt-leb}
 use Rattle.types.specs.Limits.{max_depth, max_locals}
 use Rattle.table.specs.Table.{value_bytes}
-use Rattle.sound.specs.Laws.ElemLaws.{none_some}
+use Rattle.sound.proofs.Laws.ElemLaws.{none_some}
 use Rattle.paused.specs.Paused.{Held, has_position}
 use Rattle.paused.specs.Allowed.{no_position}
 use Rattle.paused.specs.Stream.{position_of}

@@ -10,8 +10,8 @@ use Rattle.std.proofs.Math.ListN.{length}
 use Rattle.std.proofs.Math.Dec.{leb}
 use borrow.Author.Tests.{lt-ltb, le-ltb, le-leb, lt-leb, leb-true, leb-false}
 use Rattle.program.specs.Reader.{Result, Result.ok, Result.bad, then, pair, made, many, guard, between, tested, ranged}
-use Rattle.program.specs.Laws.PartLaws.{byte_ok, byte_none}
-use Rattle.sound.specs.Laws.ElemLaws.{none_some, some_is}
+use Rattle.program.proofs.Laws.PartLaws.{byte_ok, byte_none}
+use Rattle.sound.proofs.Laws.ElemLaws.{none_some, some_is}
 use Rattle.paused_read.specs.Scan.{next_on, reach}
 
 -- What was read --------------------------------------------------------------------------

@@ -19,7 +19,7 @@ use Rattle.program.specs.Reader.{Result, Result.ok, Result.bad, then, pair, made
 use Rattle.program.specs.Reader.{bool_end, wrong_end}
 use Rattle.table.specs.Table.{count_bytes}
 use Rattle.machine.specs.Published.{structs}
-use Rattle.sound.specs.Laws.ElemLaws.{none_some}
+use Rattle.sound.proofs.Laws.ElemLaws.{none_some}
 use Rattle.paused.specs.Paused.{Held, Paused}
 use Rattle.paused.specs.Stream.{read_entry, read_held, read_count, read_instances, read_paused}
 use Rattle.paused_read.specs.Scan.{next_on, reach, helds_next, entries_place, from_place, count_place, instances_place, entries_right}

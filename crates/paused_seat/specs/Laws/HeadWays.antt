@@ -3,7 +3,7 @@ use Rattle.std.specs.Prelude.{ℕ, zero, suc, ◌+◌, ◌*◌, ◌%◌, ◌<◌
 use Rattle.std.proofs.Common.{arith, add-one, ap, ap₂, sym, ◌∙◌, length-set, get_or-set_same, get_or-set_other, eq-eqb, ne_eqb}
 use Rattle.std.proofs.Math.Option.{none, some}
 use Rattle.types.specs.Limits.{step_names}
-use Rattle.sound.specs.Laws.ElemLaws.{none_some, some_is}
+use Rattle.sound.proofs.Laws.ElemLaws.{none_some, some_is}
 use Rattle.layout.specs.Layout.{head_size, head, struct_of, height_of, next_of, end_of, going, begun}
 use Rattle.memory.specs.Plan.{span_of}
 use Rattle.paused.specs.Allowed.{no_position}

@@ -16,7 +16,7 @@ use Rattle.program.specs.Tree.{Stmts}
 use Rattle.commands.specs.Context.{body_local}
 use Rattle.commands.specs.Decide.{member}
 use Rattle.table.specs.Table.{Each}
-use Rattle.sound.specs.Laws.ElemLaws.{none_some, some_is}
+use Rattle.sound.proofs.Laws.ElemLaws.{none_some, some_is}
 use Rattle.layout.specs.State.{bit}
 use Rattle.living.specs.Seen.{Marks}
 use Rattle.paused.specs.Paused.{Held}

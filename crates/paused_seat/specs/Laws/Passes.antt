@@ -4,7 +4,7 @@ use Rattle.std.proofs.Common.{arith, ap, sym, ◌∙◌}
 use Rattle.std.proofs.Math.Decide.{ℕ_discrete}
 use Rattle.std.proofs.Math.Option.{some}
 use Rattle.std.proofs.Math.ListN.{get_elem?}
-use Rattle.sound.specs.Laws.ElemLaws.{at_below, some_is}
+use Rattle.sound.proofs.Laws.ElemLaws.{at_below, some_is}
 use Rattle.paused.specs.Paused.{Held}
 use Rattle.paused_read.specs.declared.places.Next.TheVariants.{At}
 use Rattle.paused_read.specs.Scan.{held_next}

@@ -8,8 +8,8 @@ use Rattle.types.specs.Limits.{max_structs, max_instances}
 use Rattle.program.specs.Tree.{Program}
 use Rattle.run.specs.Holders.{holders}
 use Rattle.sound.specs.Startable.{Startable}
-use Rattle.sound.specs.Laws.AcceptedLaws.{accepted_firm}
-use Rattle.sound.specs.Laws.ElemLaws.{all_elem, at_below}
+use Rattle.sound.proofs.Laws.AcceptedLaws.{accepted_firm}
+use Rattle.sound.proofs.Laws.ElemLaws.{all_elem, at_below}
 use Rattle.layout.specs.Layout.{head_size, row_size, head, struct_of}
 use Rattle.layout.specs.State.{State, state_of}
 use Rattle.memory.specs.Plan.{Located}

@@ -6,7 +6,7 @@ use Rattle.std.proofs.lemmas.Bool.{false≢true}
 use Rattle.std.proofs.Math.Option.{Option, none, some}
 use Rattle.types.specs.Limits.{max_params, max_depth, max_locals, first_local, variables}
 use Rattle.little_endian.specs.Numbers.{word_at}
-use Rattle.sound.specs.Laws.ElemLaws.{none_some, some_is}
+use Rattle.sound.proofs.Laws.ElemLaws.{none_some, some_is}
 use Rattle.table.specs.Table.{value_bytes}
 use Rattle.table_read.specs.Params.{Tables}
 use Rattle.layout.specs.Layout.{row_size, variable, cell}

@@ -15,8 +15,8 @@ use Rattle.commands.specs.Noted.{noted}
 use Rattle.machine.specs.Published.{Env.env, lookup, structs}
 use Rattle.machine.specs.Machine.{Instance}
 use Rattle.table.specs.Table.{Each}
-use Rattle.sound.specs.Laws.ElemLaws.{all_elem, none_some, some_is}
-use Rattle.sound.specs.Laws.EnvLaws.{param_at as param_looked, local_at as local_looked}
+use Rattle.sound.proofs.Laws.ElemLaws.{all_elem, none_some, some_is}
+use Rattle.sound.proofs.Laws.EnvLaws.{param_at as param_looked, local_at as local_looked}
 use Rattle.layout.specs.Layout.{head, struct_of, variable, cell}
 use Rattle.memory.specs.Plan.{At}
 use Rattle.memory.specs.Stands.{Shows, Stack}

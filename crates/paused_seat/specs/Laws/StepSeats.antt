@@ -14,13 +14,13 @@ use Rattle.commands.specs.Coding.{words}
 use Rattle.commands.specs.Commands.{commands}
 use Rattle.commands.specs.Context.{Ctx, body_local, context, step_of}
 use Rattle.commands.specs.Decide.{member}
-use Rattle.commands.specs.Decide.DecideLaws.{member_reflects}
+use Rattle.commands.proofs.Decide.DecideLaws.{member_reflects}
 use Rattle.commands.specs.Living.{lives, alive}
 use Rattle.commands.specs.Noted.{Note, noted}
-use Rattle.commands.specs.Steps.{step_secure}
+use Rattle.commands.proofs.Steps.{step_secure}
 use Rattle.machine.specs.Published.{structs}
 use Rattle.table.specs.Table.{Each}
-use Rattle.sound.specs.Laws.EachLaws.{each_length}
+use Rattle.sound.proofs.Laws.EachLaws.{each_length}
 use Rattle.layout.specs.Layout.{head, next_of, end_of}
 use Rattle.layout.specs.State.{bit}
 use Rattle.living.specs.Living.{marks_living}

@@ -10,9 +10,9 @@ use Rattle.types.specs.Limits.{max_structs, max_instances, nat_end}
 use Rattle.types.specs.Types.{Ty, Ty.int, Ty.nat, Ty.bool, Ty.ref, IsType, code, struct_code}
 use Rattle.types.specs.TypeBytes.{ValueIn, ValueOf}
 use Rattle.types.specs.Values.{Val, Val.int_val, Val.nat_val, Val.bool_val, Val.label, value_of}
-use Rattle.types.specs.Laws.ValueLaws.{value_of_word, value_as}
+use Rattle.types.proofs.Laws.ValueLaws.{value_of_word, value_as}
 use Rattle.table.specs.Table.{Each}
-use Rattle.sound.specs.Laws.ElemLaws.{at_below, none_some, some_is}
+use Rattle.sound.proofs.Laws.ElemLaws.{at_below, none_some, some_is}
 use Rattle.layout.specs.Layout.{stacked, cell}
 use Rattle.memory.specs.Stands.{Shows, Stack}
 use Rattle.memory.specs.Laws.CellLaws.{word_below, shows, label_shows}

@@ -9,7 +9,7 @@ use mathlib.Core.List.{List, [], ◌∷◌}
 use Rattle.std.proofs.Math.ListN.{length, get_or, drop, length-set, length-drop}
 use Rattle.std.proofs.Math.Seq.{sets}
 use borrow.Author.Tests.{le-leb, lt-leb, lt-ltb, le-ltb}
-use Rattle.types.specs.Laws.ListLaws.{drop_next}
+use Rattle.types.proofs.Laws.ListLaws.{drop_next}
 use Rattle.types.specs.Limits.{max_params}
 use Rattle.types.specs.Types.{struct_code}
 use Rattle.tokens.specs.Tokens.{same}

@@ -10,7 +10,7 @@ use Rattle.std.proofs.Math.Option.{Option, none, some}
 use Rattle.std.proofs.Math.ListN.{length, take, length-drop}
 use Rattle.std.proofs.Math.Dec.{leb, ltb}
 use borrow.Author.Tests.{lt-ltb, le-ltb, le-leb, ltb-true, ltb-false}
-use Rattle.types.specs.Laws.ListLaws.{cons_eq}
+use Rattle.types.proofs.Laws.ListLaws.{cons_eq}
 use Rattle.types.specs.Limits.{max_params, max_steps}
 use Rattle.types.specs.Types.{struct_code, code}
 use Rattle.syntax.specs.Syntax.{Id, TypeName, TypeName.int_type, TypeName.nat_type, TypeName.bool_type, TypeName.id_type, Par, Struct}

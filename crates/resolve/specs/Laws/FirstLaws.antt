@@ -9,7 +9,7 @@ use Rattle.std.proofs.Math.ListN.{length, set, length-set}
 use Rattle.std.proofs.Math.Seq.{sets, set_out}
 use Rattle.std.proofs.Math.Dec.{ltb}
 use borrow.Author.Tests.{not-true, not-false, ltb-true, ltb-false, le-leb, lt-leb}
-use Rattle.types.specs.Laws.ListLaws.{drop_next}
+use Rattle.types.proofs.Laws.ListLaws.{drop_next}
 use Rattle.resolve.specs.Named.{name_at, names_at, sought}
 use Rattle.resolve.specs.Tables.{with_one, with_place}
 use Rattle.resolve.specs.Checks.{firsts}

@@ -5,7 +5,7 @@ use Rattle.std.proofs.Common.{arith, add-one, sym, ◌∙◌, inl, inr, length-d
 use Rattle.std.proofs.Math.Path.{refl, ap}
 use mathlib.Core.List.{List, ◌∷◌, map}
 use borrow.Author.Tests.{ne_eqb, eqb-true, eqb-false, le-leb, lt-leb, leb-true}
-use Rattle.types.specs.Laws.ListLaws.{drop_next}
+use Rattle.types.proofs.Laws.ListLaws.{drop_next}
 use Rattle.tokens.specs.Tokens.{between}
 use Rattle.syntax.specs.Syntax.{Id, TypeName, TypeName.int_type, TypeName.nat_type, TypeName.bool_type, TypeName.id_type}
 use Rattle.syntax.specs.Yield.{type_token}

@@ -9,7 +9,7 @@ use Rattle.std.proofs.Math.Option.{Option, none, some}
 use Rattle.std.proofs.Math.ListN.{length, take, drop}
 use Rattle.std.proofs.lemmas.List.{length-map}
 use Rattle.std.proofs.Math.Seq.{take_at, drop_at}
-use Rattle.types.specs.Laws.ListLaws.{cons_eq, map_twice}
+use Rattle.types.proofs.Laws.ListLaws.{cons_eq, map_twice}
 use Rattle.types.specs.Types.{Ty, code as type_code}
 use Rattle.program.specs.Tree.{Program}
 use Rattle.syntax.specs.Syntax.{Id, Par, Struct, Defs, Sched, Program.program}

@@ -7,7 +7,7 @@ use mathlib.Core.List.{List, [], ◌∷◌, ◌++◌, map}
 use Rattle.std.proofs.Math.Option.{Option, none, some}
 use Rattle.std.proofs.Math.ListN.{length}
 use Rattle.std.proofs.lemmas.List.{length-map}
-use Rattle.types.specs.Laws.ListLaws.{cons_eq}
+use Rattle.types.proofs.Laws.ListLaws.{cons_eq}
 use Rattle.types.specs.Limits.{first_local}
 use Rattle.syntax.specs.Syntax.{Id, TypeName, Par, Struct}
 use Rattle.meaning.specs.Scope.{par_id, par_type, struct_id, Local, Local.declared, local_id, local_number, local_type}

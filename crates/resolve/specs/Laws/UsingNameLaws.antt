@@ -9,7 +9,7 @@ use Rattle.std.proofs.Math.ListN.{length, get_or, drop, length-map, length-drop}
 use Rattle.std.proofs.Math.Seq.{drop-drop}
 use Rattle.std.proofs.Math.Dec.{leb, ltb}
 use borrow.Author.Tests.{lt-ltb, le-ltb}
-use Rattle.types.specs.Laws.ListLaws.{cons_eq}
+use Rattle.types.proofs.Laws.ListLaws.{cons_eq}
 use Rattle.types.specs.Limits.{first_local, max_locals}
 use Rattle.types.specs.Types.{Ty, struct_code, code}
 use Rattle.program.specs.Tree.{Var.loc}

@@ -4,35 +4,35 @@ use Prim.Native.Nat.{ℕ, zero, suc, ◌*◌, ◌≤◌}
 use native.Mathlib.Omega.{arith}
 use Rattle.std.proofs.Math.Path.{◌≡◌, refl, ap}
 use Rattle.std.proofs.Common.{sym, ◌∙◌, le-ltb}
-use Rattle.std.specs.Prelude.{◌↔◌, ◌⊎◌, Bool, true, false, not, List, [], ◌∷◌, ◌++◌, length, take, drop, ltb}
+use Rattle.std.specs.Prelude.{◌↔◌, ◌⊎◌, Bool, true, false, not, List, [], ◌∷◌, ◌++◌, length, drop, ltb}
 use Rattle.std.proofs.Math.Logic.{inl, inr}
 use Rattle.std.proofs.Math.Seq.{take-append_seam}
 use Rattle.types.specs.Limits.{program_blocks, max_commands}
 use Rattle.types.specs.Orders.{Foremost}
-use Rattle.types.specs.Laws.OrderLaws.{tells_number}
+use Rattle.types.proofs.Laws.OrderLaws.{tells_number}
 use Rattle.types.specs.Stages.{Stage.stopped as CheckedRefused, Stage.went as written, Stages}
-use Rattle.types.specs.Laws.StageLaws.{stage_on, stage_answer}
+use Rattle.types.proofs.Laws.StageLaws.{stage_on, stage_answer}
 use Rattle.block.specs.Block.{block_size}
 use Rattle.blocks.specs.declared.Written.TheVariants.{Blocks}
 use Rattle.blocks.specs.Images.{image, pieces, write, written_into}
-use Rattle.blocks.specs.ImageLaws.{image_length}
-use Rattle.blocks.specs.AnswerLaws.{write_fits}
+use Rattle.blocks.proofs.ImageLaws.{image_length}
+use Rattle.blocks.proofs.AnswerLaws.{write_fits}
 use Rattle.program.specs.Tree.{Program}
 use Rattle.program.specs.Encoding.{enc_program}
 use Rattle.program.specs.Reader.{Result, Result.ok, Result.bad, wrong_byte, then, ended, whole, read as read_stream, read_program}
-use Rattle.program.specs.Laws.StandsLaws.{stands_self}
+use Rattle.program.proofs.Laws.StandsLaws.{stands_self}
 use Rattle.commands.specs.Decide.BoundsDecide.{within}
 use Rattle.commands.specs.Decide.NamesDecide.{names_right}
 use Rattle.commands.specs.Decide.TypingDecide.{types_right}
 use Rattle.commands.specs.Numbers.{over_limits, wrong_names, wrong_types, first, breach_tests, breach_number}
 use Rattle.commands.specs.Bounds.{Within}
 use Rattle.commands.specs.Names.{NamesRight}
-use Rattle.commands.specs.Laws.NumbersLaws.{number_names}
+use Rattle.commands.proofs.Laws.NumbersLaws.{number_names}
 use Rattle.verdict.specs.Verdict.{judge, of_read, checked}
 use Rattle.verdict.specs.Verdict.{refusal, verdict_of, check_verdict}
-use Rattle.verdict.specs.VerdictLaws.{checked_image, checks_room}
+use Rattle.verdict.proofs.VerdictLaws.{checked_image, checks_room}
 use Rattle.verdict.specs.ProgramInput.{Approved}
-use Rattle.verdict.specs.ProgramInputLaws.{Checks, tell_checks, approves, refusal_same, refusal_apart}
+use Rattle.verdict.proofs.ProgramInputLaws.{Checks, tell_checks, approves, refusal_same, refusal_apart}
 use Rattle.meaning.specs.Holds.{max_stream, Holds}
 use Rattle.meaning.specs.Nesting.{Shallow}
 use Rattle.source.specs.Source.{number_of, blocks_of, output_of}

@@ -17,12 +17,12 @@ use Rattle.program.specs.Reader.{Result, Result.ok, Result.bad, wrong_end, wrong
 use Rattle.program.specs.Reader.{form, read_make, rule_expr, read_expr, kind, read_body, read_when, read_declare, read_update, rule_stmt, read_stmt}
 use Rattle.program.specs.Reader.{read_step, read_steps, item_sort, read_items, rule_item, read_item, read_program}
 use Rattle.program.specs.Exact.{Stands, Stands.letter, Exact}
-use Rattle.program.specs.Laws.StandsLaws.{split, stands_none}
-use Rattle.program.specs.Laws.PartLaws.{then_ok, byte_ok, byte_none}
-use Rattle.program.specs.Laws.JoinLaws.{Within, ranged_exact}
-use Rattle.program.specs.Laws.WordLaws.{below_exact, word_exact, type_exact, local_exact, path_exact}
-use Rattle.program.specs.Laws.ExprLaws.{form_code, height_pos, expr_exact}
-use Rattle.program.specs.Laws.ProgramLaws.{params_exact}
+use Rattle.program.proofs.Laws.StandsLaws.{split, stands_none}
+use Rattle.program.proofs.Laws.PartLaws.{then_ok, byte_ok, byte_none}
+use Rattle.program.proofs.Laws.JoinLaws.{Within, ranged_exact}
+use Rattle.program.proofs.Laws.WordLaws.{below_exact, word_exact, type_exact, local_exact, path_exact}
+use Rattle.program.proofs.Laws.ExprLaws.{form_code, height_pos, expr_exact}
+use Rattle.program.proofs.Laws.ProgramLaws.{params_exact}
 use Rattle.meaning.specs.Holds.{HoldsStmt, HoldsStmts, HoldsStep, HoldsSchedule, Counted}
 use Rattle.source.specs.Kept.{Kept, Kept.kept, Kept.too_deep, Keeps}
 

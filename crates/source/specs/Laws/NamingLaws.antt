@@ -7,7 +7,7 @@ use mathlib.Core.List.{List, [], ◌∷◌, ◌++◌, map, Memᴰ}
 use Rattle.program.specs.Tree.{Var as Variable, Expr, Exprs, Stmt, Stmts, Step as NamedStep}
 use Rattle.program.specs.Counts.{All}
 use Rattle.commands.specs.Names.{Starts as NamedStart, Names, NamesAll, declares, declared, live_after, NamedStmt, Named}
-use Rattle.commands.specs.Laws.RangeLaws.{all_append}
+use Rattle.commands.proofs.Laws.RangeLaws.{all_append}
 use Rattle.syntax.specs.Syntax.{Id, TypeName, Literal, Var, Exp, Exps, Stat, Stats, Par, Step, Struct}
 use Rattle.meaning.specs.Scope.{Found, Found.here, Found.later, Local, local_id, local_number}
 use Rattle.meaning.specs.Means.{LiteralMeans, LiteralMeans.int_means, LiteralMeans.nat_means, LiteralMeans.true_means, LiteralMeans.false_means}

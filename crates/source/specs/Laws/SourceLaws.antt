@@ -14,14 +14,14 @@ use Rattle.types.specs.Numbers.{no_room, no_token, no_derivation, no_program}
 use Rattle.types.specs.Reflects.{Reflects, Reflects.holds as so, Reflects.fails as not_so, lt_reflects}
 use Rattle.types.specs.Decides.{reflected}
 use Rattle.types.specs.Orders.{Order, NoneOf, Foremost, Tells.passes}
-use Rattle.types.specs.Laws.OrderLaws.{at_first, after_first, here, past}
+use Rattle.types.proofs.Laws.OrderLaws.{at_first, after_first, here, past}
 use Rattle.types.specs.Stages.{Stage.went as written, Stage.stopped as refused, on, asked, given, Stages}
-use Rattle.types.specs.Laws.StageLaws.{stage_asked, stage_given, stage_number, stage_none, stage_past}
+use Rattle.types.proofs.Laws.StageLaws.{stage_asked, stage_given, stage_number, stage_none, stage_past}
 use Rattle.block.specs.Block.{block_size}
 use Rattle.program.specs.Tree.{Program}
 use Rattle.program.specs.Encoding.{enc_program}
 use Rattle.program.specs.Reader.{Result.ok, read as read_stream}
-use Rattle.program.specs.Laws.ProgramLaws.{program_law}
+use Rattle.program.proofs.Laws.ProgramLaws.{program_law}
 use Rattle.tokens.specs.Tokens.{Token}
 use Rattle.tokens.specs.Lexing.{Lexed}
 use Rattle.tokens.specs.Scanning.{lex}

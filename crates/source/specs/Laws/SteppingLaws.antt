@@ -1,6 +1,6 @@
 -- The names of a program that a derivation means are right wherever its steps are (02 §1; 01, number 7): a step that is called without its struct is some
 -- struct's.
-use Rattle.std.specs.Prelude.{ℕ, zero, suc, ◌+◌, ◌≡◌, refl, Bool, true, false, ◌⊎◌, length, get_or}
+use Rattle.std.specs.Prelude.{ℕ, suc, ◌+◌, ◌≡◌, refl, Bool, true, false, ◌⊎◌, length, get_or}
 use Rattle.std.proofs.Common.{zero-add, add-zero, add-suc, suc-add, sym, ap}
 use Rattle.std.proofs.Math.Logic.{inl, inr}
 use mathlib.Core.List.Memᴰ

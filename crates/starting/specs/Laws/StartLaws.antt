@@ -12,7 +12,7 @@ use Rattle.program.specs.Tree.{Program}
 use Rattle.commands.specs.Accepted.{Accepted}
 use Rattle.commands.specs.Names.{Had}
 use Rattle.commands.specs.Decide.NamesDecide.{stepped}
-use Rattle.commands.specs.Laws.NumbersLaws.{number_accepts}
+use Rattle.commands.proofs.Laws.NumbersLaws.{number_accepts}
 use Rattle.commands.specs.ProgramWords.{program_words}
 use Rattle.verdict.specs.Verdict.{listed}
 use Rattle.table.specs.Table.{Record}
@@ -22,8 +22,8 @@ use Rattle.run.specs.Begin.{first_instances, begin}
 use Rattle.run.specs.Visits.{Acts.moves as acts_move}
 use Rattle.sound.specs.Invariant.{Open.open_done, Open.open_start}
 use Rattle.sound.specs.Tabled.{Tabled}
-use Rattle.sound.specs.Laws.BeginGood.{begin_good}
-use Rattle.sound.specs.Laws.TabledLaws.{acts_tabled}
+use Rattle.sound.proofs.Laws.BeginGood.{begin_good}
+use Rattle.sound.proofs.Laws.TabledLaws.{acts_tabled}
 use Rattle.orders.specs.StepAnswer.{alone, step_machine}
 use Rattle.orders.specs.Laws.AloneLaws.{alone_accepted}
 use Rattle.orders.specs.Laws.StepAnswerLaws.{begin_moves, begin_due, alone_firm, step_good, stepped_had}

@@ -6,8 +6,8 @@ use native.Mathlib.Omega.{arith}
 use mathlib.Core.Path.{◌≡◌, refl, sym, ap, ◌∙◌}
 use lib.ListN.{length}
 use Rattle.directory.specs.Rows.{rows_from}
-use Rattle.directory.specs.RowsLaws.{rows_each}
-use Rattle.directory.specs.DirectoryLaws.{sizes}
+use Rattle.directory.proofs.RowsLaws.{rows_each}
+use Rattle.directory.proofs.DirectoryLaws.{sizes}
 use Rattle.text.specs.Listing.{Placed}
 use Rattle.text.specs.ListingLaws.{placed_as}
 use Rattle.step_lines.specs.RowLines.{line_most, RowFits, rows_lines}

@@ -15,15 +15,15 @@ use Rattle.program.specs.Tree.{Program}
 use Rattle.program.specs.Counts.{All, Counts}
 use Rattle.commands.specs.Context.{params_of}
 use Rattle.table.specs.Table.{Record, Each, Held, HeldRecord, HeldTable}
-use Rattle.table.specs.Laws.SizeLaws.{each_length, few_params}
+use Rattle.table.proofs.Laws.SizeLaws.{each_length, few_params}
 use Rattle.judge.specs.ProgramFacts.{types_table}
-use Rattle.judge.specs.Laws.ProgramTableLaws.{types_at}
+use Rattle.judge.proofs.Laws.ProgramTableLaws.{types_at}
 use Rattle.machine.specs.Published.{Sched, of_items, structs}
 use Rattle.machine.specs.Machine.{Instance, Machine, machine, with_instances}
 use Rattle.run.specs.Begin.{resting, nulls, first_instances, begin}
-use Rattle.sound.specs.Laws.ElemLaws.{none_some, some_is, at_below, elem_all}
-use Rattle.sound.specs.Laws.EachLaws.{each_at}
-use Rattle.sound.specs.Laws.AcceptedLaws.{params_counted}
+use Rattle.sound.proofs.Laws.ElemLaws.{none_some, some_is, at_below, elem_all}
+use Rattle.sound.proofs.Laws.EachLaws.{each_at}
+use Rattle.sound.proofs.Laws.AcceptedLaws.{params_counted}
 use Rattle.layout.specs.Layout.{head_size, row_size, cell}
 use Rattle.layout.specs.State.{State, state_of, set_count, set_place, fresh}
 use Rattle.memory.specs.Stands.{Shows, Stands, bits}

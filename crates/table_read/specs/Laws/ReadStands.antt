@@ -12,7 +12,7 @@ use Rattle.block.specs.declared.Found.TheVariants.{Right, Wrong}
 use Rattle.program.specs.Tree.{Program}
 use Rattle.program.specs.Counts.{Counts}
 use Rattle.table.specs.Table.{Record, HeldTable, TableRight}
-use Rattle.table.specs.Laws.TableLaws.{table_answer_exact}
+use Rattle.table.proofs.Laws.TableLaws.{table_answer_exact}
 use Rattle.judge.specs.ProgramFacts.{types_table}
 use Rattle.machine.specs.Published.{Sched, of_items, structs}
 use Rattle.run.specs.Begin.{begin}

@@ -16,9 +16,9 @@ use Rattle.types.specs.TypeBytes.{is_ref, struct_of as type_struct, ValueOf}
 use Rattle.types.specs.Values.{Val, Val.int_val, Val.nat_val, Val.bool_val, Val.label, word}
 use Rattle.program.specs.Counts.{All}
 use Rattle.table.specs.Table.{Record, struct_at, Each, Held, HeldRecord}
-use Rattle.table.specs.Laws.SizeLaws.{each_length}
+use Rattle.table.proofs.Laws.SizeLaws.{each_length}
 use Rattle.table.specs.TableReader.{is_struct, refers, refers_each, references}
-use Rattle.sound.specs.Laws.ElemLaws.{at_append, at_behind, all_elem}
+use Rattle.sound.proofs.Laws.ElemLaws.{at_append, at_behind, all_elem}
 use Rattle.layout.specs.Layout.{head_size, row_size, cell}
 use Rattle.memory.specs.Laws.CellLaws.{operand_part}
 use Rattle.table_read.specs.Params.{types_from, lists_of}

@@ -15,12 +15,12 @@ use Rattle.block.specs.declared.Fault.{Fault}
 use Rattle.block.specs.declared.Found.TheVariants.{Right, Wrong}
 use Rattle.program.specs.Counts.{All}
 use Rattle.program.specs.Reader.{Result, Result.ok, Result.bad, then, many, guard, ended, whole}
-use Rattle.program.specs.Laws.PartLaws.{told_is}
-use Rattle.program.specs.Laws.JoinLaws.{row_exact, flat_row}
+use Rattle.program.proofs.Laws.PartLaws.{told_is}
+use Rattle.program.proofs.Laws.JoinLaws.{row_exact, flat_row}
 use Rattle.table.specs.Table.{Record, count_bytes, enc_record, HeldRecord}
 use Rattle.table.specs.TableReader.{read_record, read_count, read_table, references, table_number}
 use Rattle.table.specs.TableReader.{table_answer, table_of_stream}
-use Rattle.table.specs.Laws.TableExact.{record_exact}
+use Rattle.table.proofs.Laws.TableExact.{record_exact}
 use Rattle.layout.specs.Layout.{head_size, row_size}
 use Rattle.table_read.specs.declared.reading.PlaceRead.{PlaceRead}
 use Rattle.table_read.specs.declared.reading.PlaceRead.TheVariants.{Place, NoPlace}

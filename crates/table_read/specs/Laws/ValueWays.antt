@@ -8,10 +8,10 @@ use Rattle.std.proofs.Common.{ltb-true, lt-ltb}
 use Rattle.types.specs.Limits.{nat_end}
 use Rattle.types.specs.Numbers.{table_end, table_value}
 use Rattle.types.specs.Types.{Ty, type_of}
-use Rattle.types.specs.Laws.TypeLaws.{type_of_struct}
+use Rattle.types.proofs.Laws.TypeLaws.{type_of_struct}
 use Rattle.types.specs.TypeBytes.{word_end}
 use Rattle.types.specs.Values.{Val, word, value_of}
-use Rattle.types.specs.Laws.ValueLaws.{word_of_value}
+use Rattle.types.proofs.Laws.ValueLaws.{word_of_value}
 use Rattle.program.specs.Reader.{Result, Result.ok, Result.bad, byte_end, then, made, many, guard, ranged, read_word}
 use Rattle.read_exprs.specs.ByteWays.{byte_is, byte_stops, ranged_in, ranged_out}
 use Rattle.table.specs.TableReader.{allowed, read_value, table_number}

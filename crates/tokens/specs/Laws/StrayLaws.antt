@@ -1,6 +1,6 @@
 -- Why a text has no tokens, exactly (02 §1, 15): scanning comes to none exactly where a comment is not closed or a byte begins no token.
 use Rattle.std.specs.Prelude.{ℕ, zero, suc, ◌≤◌, ◌≡◌, refl, Bool, true, false, ◌↔◌, ◌⊎◌, List, [], ◌∷◌, ◌++◌, length, take, drop}
-use Rattle.std.proofs.Common.{arith, sym, ap, ◌∙◌, inl, inr, length-append, length-drop, take-append-drop}
+use Rattle.std.proofs.Common.{arith, sym, ap, ◌∙◌, inl, inr, length-append, take-append-drop}
 use Rattle.std.proofs.lemmas.Bool.{false≢true}
 use Rattle.std.proofs.Math.Option.{Option, none, some}
 use Rattle.tokens.specs.Bytes.{star, slash}

@@ -1,6 +1,6 @@
 -- `default_word` meets its contract: a default's word is the number of its struct.
 use mathlib.Core.Path.{◌∙◌, sym}
-use Rattle.types.specs.Laws.ValueLaws.{default_word}
+use Rattle.types.proofs.Laws.ValueLaws.{default_word}
 use Rattle.types.proofs.default_word.Goals as goal
 
 pub returns : goal.returns

@@ -1,5 +1,5 @@
 -- `is_reference` meets its contract.
-use Rattle.types.specs.Laws.TypeLaws.{ref_byte}
+use Rattle.types.proofs.Laws.TypeLaws.{ref_byte}
 use Rattle.types.proofs.is_reference.Goals as goal
 
 pub returns : goal.returns

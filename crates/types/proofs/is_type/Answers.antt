@@ -1,5 +1,5 @@
 -- `is_type` meets its contract, by a law for each way through it.
-use Rattle.types.specs.Laws.TypeLaws.{small_byte, middle_byte, large_byte}
+use Rattle.types.proofs.Laws.TypeLaws.{small_byte, middle_byte, large_byte}
 use Rattle.types.proofs.is_type.Goals as goal
 
 pub returns-then-code-le-BOOL : goal.returns-then-code-le-BOOL

@@ -1,5 +1,5 @@
 -- `struct_of` meets its contract, by a law for each way through it.
-use Rattle.types.specs.Laws.TypeLaws.{no_struct_byte, struct_byte}
+use Rattle.types.proofs.Laws.TypeLaws.{no_struct_byte, struct_byte}
 use Rattle.types.proofs.struct_of.Goals as goal
 
 pub returns-then-code-lt-STRUCT : goal.returns-then-code-lt-STRUCT

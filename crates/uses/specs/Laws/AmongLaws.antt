@@ -8,7 +8,7 @@ use Rattle.std.proofs.lemmas.Bool.{false≢true, eqb-false}
 use mathlib.Core.List.{List, [], ◌∷◌, map}
 use Rattle.std.proofs.lemmas.List.{length-map}
 use Rattle.std.proofs.Math.Dec.{eqb}
-use Rattle.types.specs.Laws.ListLaws.{drop_next}
+use Rattle.types.proofs.Laws.ListLaws.{drop_next}
 use Rattle.tokens.specs.Tokens.{between}
 use Rattle.resolve.specs.Laws.StandingLaws.{both_parts}
 use Rattle.resolve.specs.Tables.{places_from, places, with_place, with_one, offsets_from, offsets}

@@ -3,7 +3,7 @@ use Rattle.std.specs.Prelude.{ℕ, zero, suc, ◌+◌, ◌-◌, ◌≤◌, ◌<�
 use Rattle.std.proofs.Common.{arith, sym, ap, ◌∙◌, length-take, length-drop, lt-length-set, drop-cons, drop-drop, take-take, get_or-take, get_or-drop, get_or-set_same, drop-set-lt}
 use Rattle.std.proofs.lemmas.List.{length-map, take-set-le, drop-set-add}
 use Rattle.std.proofs.Math.Seq.{take-nil}
-use Rattle.types.specs.Laws.ListLaws.{cons_eq, map_drop, map_take}
+use Rattle.types.proofs.Laws.ListLaws.{cons_eq, map_drop, map_take}
 use Rattle.resolve.specs.Checks.{part_of}
 use Rattle.resolve.specs.Using.{last_of}
 use Rattle.resolve.specs.Resolved.{cuts}

@@ -6,7 +6,7 @@ use Rattle.std.proofs.Math.Path.{◌≡◌, refl, sym, ap}
 use Rattle.std.proofs.Math.Bool.{true, false}
 use Rattle.std.proofs.Math.Dec.{leb, ltb}
 use borrow.Author.Tests.{ltb-true, ltb-false, lt-ltb, le-ltb, le-leb, lt-leb, eq-eqb, ne_eqb}
-use Rattle.types.specs.Laws.ListLaws.{map_drop}
+use Rattle.types.proofs.Laws.ListLaws.{map_drop}
 use Rattle.types.specs.Limits.{first_local}
 use Rattle.types.specs.Types.{struct_code}
 use Rattle.syntax.specs.Syntax.{Id}

@@ -10,7 +10,7 @@ use Rattle.std.proofs.Math.Option.{some}
 use Rattle.std.proofs.Math.ListN.{length, get_or, take, drop}
 use Rattle.std.proofs.lemmas.List.{length-map}
 use borrow.Author.Tests.{eq-eqb, ne_eqb}
-use Rattle.types.specs.Laws.ListLaws.{map_drop}
+use Rattle.types.proofs.Laws.ListLaws.{map_drop}
 use Rattle.derive.specs.Held.{held}
 use Rattle.derive.specs.HeldLaws.{held_set, held_push}
 use Rattle.meaning.specs.Meant.{provided}

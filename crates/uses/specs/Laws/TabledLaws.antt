@@ -9,7 +9,7 @@ use mathlib.Core.List.{List, [], ◌∷◌, map}
 use Rattle.std.proofs.Math.ListN.{get_or, length-map}
 use Rattle.std.proofs.lemmas.List.Edits.{sets}
 use Rattle.std.proofs.Math.Dec.{leb}
-use Rattle.types.specs.Laws.ListLaws.{cons_eq}
+use Rattle.types.proofs.Laws.ListLaws.{cons_eq}
 use Rattle.types.specs.Limits.{max_structs, step_names as max_names}
 use Rattle.syntax.specs.Syntax.{Id}
 use Rattle.meaning.specs.Finding.{distinct}

@@ -1,7 +1,7 @@
 -- `put::copy` meets its contract. The loop's invariant: the first i bytes have been written. The measure is what is left of src.
 use Rattle.std.proofs.Common.{◌≡◌, ◌+◌, ◌-◌, ◌≤◌, length, get_or, take, set, sym, ap, ◌∙◌, arith, length-set, take_all, rules}
 use Rattle.block.specs.Put.{put}
-use Rattle.block.specs.Laws.PutLaws.{put_nil, put_turn}
+use Rattle.block.proofs.Laws.PutLaws.{put_nil, put_turn}
 use Rattle.block.proofs.put.copy.Goals as goal
 
 pub loop-i-init : goal.loop-i-init

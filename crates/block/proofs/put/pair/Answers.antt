@@ -1,6 +1,6 @@
 -- `put::pair` meets its contract: the bytes of a number of two are put there.
 use Rattle.std.proofs.Common.{◌∙◌}
-use Rattle.block.specs.Laws.BlockWriteWays.{put_pair}
+use Rattle.block.proofs.Laws.BlockWriteWays.{put_pair}
 use Rattle.block.proofs.put.pair.Goals as goal
 
 pub returns : goal.returns

@@ -1,8 +1,8 @@
 -- `put::zeros` meets its contract. The loop's invariant: the first i zeros have been written. The measure is what is left of the n bytes.
 use Rattle.std.proofs.Common.{◌≡◌, ◌+◌, ◌-◌, ◌≤◌, length, set, replicate, sym, refl, ap, ◌∙◌, arith, length-set}
 use Rattle.block.specs.Put.{put}
-use Rattle.block.specs.Laws.PutLaws.{put_nil}
-use Rattle.block.specs.Laws.BlockWriteWays.{zeros_turn}
+use Rattle.block.proofs.Laws.PutLaws.{put_nil}
+use Rattle.block.proofs.Laws.BlockWriteWays.{zeros_turn}
 use Rattle.block.proofs.put.zeros.Goals as goal
 
 pub loop-i-init : goal.loop-i-init

@@ -1,5 +1,5 @@
 -- `writing::put_block` meets its contract: the sums are those of bytes 0 to 507, which stand in the output already.
-use Rattle.block.specs.Laws.BlockWriteWays.{block_put}
+use Rattle.block.proofs.Laws.BlockWriteWays.{block_put}
 use Rattle.block.proofs.writing.put_block.Goals as goal
 
 pub returns : goal.returns

@@ -1,5 +1,5 @@
 -- `writing::put_front` meets its contract: its four writes stand one behind the other.
-use Rattle.block.specs.Laws.BlockWriteWays.{front_put}
+use Rattle.block.proofs.Laws.BlockWriteWays.{front_put}
 use Rattle.block.proofs.writing.put_front.Goals as goal
 
 pub returns : goal.returns

@@ -2,8 +2,8 @@
 use Rattle.std.proofs.Common.{◌≤◌, ◌-◌, ◌≡◌, ◌∙◌, ap, sym, refl, subst, length, rules, arith}
 use Rattle.block.specs.Block.{block_fault}
 use Rattle.blocks.specs.Images.{first_fault}
-use Rattle.blocks.specs.ImageLaws.{block_whole}
-use Rattle.blocks.specs.ImageWays.{block_at, first_more, first_stop}
+use Rattle.blocks.proofs.ImageLaws.{block_whole}
+use Rattle.blocks.proofs.ImageWays.{block_at, first_more, first_stop}
 use Rattle.block.specs.declared.Found.TheVariants.{Right}
 use Rattle.blocks.proofs.reading.first_fault.Goals as goal
 

@@ -2,10 +2,10 @@
 -- n blocks.
 use Rattle.std.proofs.Common.{◌≤◌, ◌-◌, ◌≡◌, ◌∙◌, ap, sym, refl, length, arith}
 use Rattle.block.specs.Put.{put}
-use Rattle.block.specs.Laws.PutLaws.{put_nil}
+use Rattle.block.proofs.Laws.PutLaws.{put_nil}
 use Rattle.blocks.specs.Images.{joined}
-use Rattle.blocks.specs.ImageLaws.{block_whole}
-use Rattle.blocks.specs.ImageWays.{block_at, part_at, joined_fits, join_turn, used_fits}
+use Rattle.blocks.proofs.ImageLaws.{block_whole}
+use Rattle.blocks.proofs.ImageWays.{block_at, part_at, joined_fits, join_turn, used_fits}
 use Rattle.blocks.proofs.reading.join.Goals as goal
 
 pub loop-k-init : goal.loop-k-init

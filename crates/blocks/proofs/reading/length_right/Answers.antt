@@ -1,5 +1,5 @@
 -- `reading::length_right` meets its contract, by a law for each way through it.
-use Rattle.blocks.specs.ImageWays.{not_whole, no_block, some_block}
+use Rattle.blocks.proofs.ImageWays.{not_whole, no_block, some_block}
 use Rattle.blocks.proofs.reading.length_right.Goals as goal
 
 pub returns-then-n-ne0 : goal.returns-then-n-ne0

@@ -1,7 +1,7 @@
 -- `reading::stream_length` meets its contract: the last block's used count stands at its byte 2.
 use Rattle.std.proofs.Common.{◌≡◌, suc, ◌-◌, arith}
-use Rattle.blocks.specs.ImageLaws.{stream_length}
-use Rattle.blocks.specs.ImageWays.{used_at}
+use Rattle.blocks.proofs.ImageLaws.{stream_length}
+use Rattle.blocks.proofs.ImageWays.{used_at}
 use Rattle.blocks.proofs.reading.stream_length.Goals as goal
 
 pub returns : goal.returns

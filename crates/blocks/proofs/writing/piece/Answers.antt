@@ -1,5 +1,5 @@
 -- `writing::piece` meets its contract: the last piece goes up to the stream's end.
-use Rattle.blocks.specs.WriteWays.{piece_last, piece_full}
+use Rattle.blocks.proofs.WriteWays.{piece_last, piece_full}
 use Rattle.blocks.proofs.writing.piece.Goals as goal
 
 pub returns-then-stream-start-lt-PAYLOAD_SIZE : goal.returns-then-stream-start-lt-PAYLOAD_SIZE

@@ -1,10 +1,10 @@
 -- `writing::put_blocks` meets its contract. The loop's invariant: the first k blocks have been written. The measure is what is left of the n blocks.
 use Rattle.std.proofs.Common.{◌≤◌, ◌-◌, ◌≡◌, ◌∙◌, ap, sym, refl, length, arith}
 use Rattle.block.specs.Put.{put}
-use Rattle.block.specs.Laws.PutLaws.{put_nil}
+use Rattle.block.proofs.Laws.PutLaws.{put_nil}
 use Rattle.blocks.specs.Images.{image_of}
-use Rattle.blocks.specs.ImageLaws.{piece_fits}
-use Rattle.blocks.specs.WriteWays.{blocks_turn}
+use Rattle.blocks.proofs.ImageLaws.{piece_fits}
+use Rattle.blocks.proofs.WriteWays.{blocks_turn}
 use Rattle.blocks.proofs.writing.put_blocks.Goals as goal
 
 pub loop-k-init : goal.loop-k-init

@@ -1,5 +1,5 @@
 -- `writing::stream_right` meets its contract, by a law for each way through it.
-use Rattle.blocks.specs.WriteWays.{no_byte, some_byte}
+use Rattle.blocks.proofs.WriteWays.{no_byte, some_byte}
 use Rattle.blocks.proofs.writing.stream_right.Goals as goal
 
 pub returns-then-n-lt1 : goal.returns-then-n-lt1

@@ -1,5 +1,5 @@
 -- `rows::put_row` meets its contract: four numbers side by side.
-use Rattle.directory.specs.RowsLaws.{put_row_is}
+use Rattle.directory.proofs.RowsLaws.{put_row_is}
 use Rattle.directory.proofs.rows.put_row.Goals as goal
 
 pub returns : goal.returns

@@ -1,6 +1,6 @@
 -- `rows::there` meets its contract.
 use Rattle.std.proofs.Common.{◌≡◌, sym, ◌∙◌}
-use Rattle.directory.specs.FindLaws.{there_nowhere, there_here}
+use Rattle.directory.proofs.FindLaws.{there_nowhere, there_here}
 use Rattle.directory.proofs.rows.there.Goals as goal
 
 pub returns-in_default : goal.returns-in_default

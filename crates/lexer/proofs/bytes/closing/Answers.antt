@@ -1,5 +1,5 @@
 -- `bytes::closing` meets its contract. The loop's invariant: no close was passed. The measure is what is left of the text.
-use Rattle.std.proofs.Common.{◌-◌, sym, ◌∙◌, arith}
+use Rattle.std.proofs.Common.{sym, ◌∙◌, arith}
 use Rattle.lexer.specs.RunLaws.{opened_start, opened_close, opened_on, opened_out}
 use Rattle.lexer.proofs.bytes.closing.Goals as goal
 

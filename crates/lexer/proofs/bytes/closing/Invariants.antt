@@ -1,4 +1,4 @@
-use Rattle.std.proofs.Common.{◌-◌, ◌∙◌, length}
+use Rattle.std.proofs.Common.{◌-◌, length}
 use Rattle.lexer.specs.RunLaws.{Opened}
 use Rattle.lexer.proofs.bytes.closing.Given as goal
 

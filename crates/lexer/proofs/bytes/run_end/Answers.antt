@@ -1,5 +1,5 @@
 -- `bytes::run_end` meets its contract. The loop's invariant: the run goes on from i. The measure is what is left of the text.
-use Rattle.std.proofs.Common.{◌-◌, refl, sym, ◌∙◌, arith}
+use Rattle.std.proofs.Common.{refl, sym, ◌∙◌, arith}
 use Rattle.lexer.specs.RunLaws.{runs_on, runs_stop, runs_out}
 use Rattle.lexer.proofs.bytes.run_end.Goals as goal
 

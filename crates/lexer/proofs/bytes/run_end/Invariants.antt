@@ -1,4 +1,4 @@
-use Rattle.std.proofs.Common.{◌-◌, ◌∙◌, length}
+use Rattle.std.proofs.Common.{◌-◌, length}
 use Rattle.tokens.specs.Marking.{run_byte}
 use Rattle.lexer.specs.RunLaws.{Runs}
 use Rattle.lexer.proofs.bytes.run_end.Given as goal

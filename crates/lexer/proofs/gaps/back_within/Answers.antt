@@ -1,5 +1,5 @@
 -- `gaps::back_within` meets its contract. The loop's invariant: no token began so far. The measure is the place.
-use Rattle.std.proofs.Common.{◌≤◌, arith}
+use Rattle.std.proofs.Common.{arith}
 use Rattle.lexer.specs.GapLaws.{gap_none, gap_front}
 use Rattle.lexer.proofs.gaps.back_within.Goals as goal
 

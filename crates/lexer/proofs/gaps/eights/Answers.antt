@@ -1,6 +1,5 @@
 -- `gaps::eights` meets its contract. The loop's invariant: no token began so far. The measure is what is left of the kinds.
-use Rattle.std.proofs.Common.{◌-◌, arith}
-use Rattle.std.proofs.lemmas.Bool.{not-false}
+use Rattle.std.proofs.Common.{arith}
 use Rattle.lexer.specs.GapLaws.{gap_none, gap_join}
 use Rattle.lexer.proofs.gaps.eights.Goals as goal
 

@@ -1,6 +1,5 @@
 -- `gaps::eights_back` meets its contract. The loop's invariant: no token began so far. The measure is the place.
 use Rattle.std.proofs.Common.{◌+◌, ◌-◌, ◌≡◌, arith}
-use Rattle.std.proofs.lemmas.Bool.{not-false}
 use Rattle.lexer.specs.GapLaws.{gap_none, gap_join}
 use Rattle.lexer.proofs.gaps.eights_back.Goals as goal
 

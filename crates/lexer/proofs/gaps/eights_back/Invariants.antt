@@ -1,4 +1,3 @@
-use Rattle.std.proofs.Common.{◌+◌, ◌-◌, ◌≡◌}
 use Rattle.lexer.specs.Gaps.{Gap}
 use Rattle.lexer.proofs.gaps.eights_back.Given as goal
 

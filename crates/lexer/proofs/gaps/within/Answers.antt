@@ -1,5 +1,5 @@
 -- `gaps::within` meets its contract. The loop's invariant: no token began so far. The measure is what is left up to the end.
-use Rattle.std.proofs.Common.{◌-◌, ◌≤◌, arith}
+use Rattle.std.proofs.Common.{arith}
 use Rattle.lexer.specs.GapLaws.{gap_none, gap_one, gap_join}
 use Rattle.lexer.proofs.gaps.within.Goals as goal
 
@@ -19,12 +19,11 @@ pub loop-i-smaller : goal.loop-i-smaller
 loop-i-smaller c = omega (arith, c.loop-i-test.true)
 
 pub loop-i-preserved : goal.loop-i-preserved
-loop-i-preserved c =
-    (
-      gap_join c.loop-i.invariant.0
-          (gap_one (omega (arith, c.loop-i-test.true, c.requires.1)) c.if-kinds-i-ne0.false),
-      omega (arith, c.loop-i-test.true),
-    )
+loop-i-preserved c = (
+  gap_join c.loop-i.invariant.0
+      (gap_one (omega (arith, c.loop-i-test.true, c.requires.1)) c.if-kinds-i-ne0.false),
+  omega (arith, c.loop-i-test.true),
+)
 
 pub returns : goal.returns
 returns c = record { gap = c.loop-i.invariant; token = λ l. absurd (omega (arith, l, c.loop-i-test.false)) }

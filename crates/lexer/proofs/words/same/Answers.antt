@@ -1,5 +1,5 @@
 -- `words::same` meets its contract. The loop's invariant: the lists are the same up to i. The measure is what is left.
-use Rattle.std.proofs.Common.{◌-◌, refl, arith, length}
+use Rattle.std.proofs.Common.{refl, arith}
 use Rattle.lexer.specs.RunLaws.{same_lengths, agree_on, agree_not, agree_out}
 use Rattle.lexer.proofs.words.same.Goals as goal
 

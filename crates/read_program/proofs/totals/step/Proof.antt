@@ -2,7 +2,7 @@
 use native.Mathlib.Omega.{arith}
 use mathlib.Core.Path.{refl, sym, ◌∙◌}
 use Rattle.directory.specs.Directory.{row}
-use Rattle.directory.specs.RowsLaws.{rows_added}
+use Rattle.directory.proofs.RowsLaws.{rows_added}
 use Rattle.read_program.specs.Total.{with}
 use Rattle.read_program.specs.OwnLaws.{plus_steps, led_noted}
 use Rattle.read_program.specs.TotalWays.{step_stop, step_cut, step_read, step_low}

@@ -1,0 +1,4 @@
+pub mod NamesDecideLaws
+pub mod BoundsDecideLaws
+pub mod DecideLaws
+pub mod TypingDecideLaws

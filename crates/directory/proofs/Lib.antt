@@ -1,0 +1,4 @@
+pub mod RowsLaws
+pub mod HeldLaws
+pub mod DirectoryLaws
+pub mod FindLaws

@@ -1,0 +1,14 @@
+-- `holder` meets its contract. With the loop go the label that comes next, how many holders are still to be passed, and that the search from
+-- there finds what is looked for; the measure is how many records are left.
+use Rattle.std.proofs.Common.{◌≤◌, ◌-◌, ◌≡◌}
+use Rattle.holders.specs.Records.{search, holder_in}
+use Rattle.holders.proofs.holder.Given as goal
+
+abbrev pub invariant-loop-passed : goal.invariant-loop-passed
+invariant-loop-passed l = record {
+  within : l.passed ≤ l.n;
+  finds : holder_in l.rs l.n l.from l.r ≡ search l.rs l.n (l.n - l.passed) l.l l.left;
+}
+
+abbrev pub decreases-loop-passed : goal.decreases-loop-passed
+decreases-loop-passed l = l.n - l.passed

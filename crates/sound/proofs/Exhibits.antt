@@ -1,0 +1,4 @@
+pub mod ExhibitAccepted
+pub mod ExhibitLacks
+pub mod ExhibitLocals
+pub mod ExhibitTurns

@@ -1,0 +1,2 @@
+pub mod TableRefusing
+pub mod Laws

@@ -1,0 +1,5 @@
+use Rattle.std.proofs.Common.{◌<◌, ◌∙◌}
+use Rattle.text.proofs.+digits.Given as goal
+
+abbrev pub decreases-digits : goal.decreases-digits
+decreases-digits l = l.w

@@ -1,0 +1,4 @@
+pub mod VerdictLaws
+pub mod ListLaws
+pub mod ProgramInputLaws
+pub mod Rows
