@@ -169,7 +169,7 @@ module _ {p : Program} (firm : Firm p) where
   }
   ordered_traced {m} {st} S (a_turn {l = l} {ls = ls} r o) =
       let (d, n, s, S') = rule_step S r in
-      let t = ordered_traced S' o in
+      let t = ordered_traced {m = n} S' o in
       record {
         deeds = record { actor = l; deed = d } ∷ t.deeds;
         last = t.last;
