@@ -1,11 +1,11 @@
 -- A command as 01 lists it ('Bench rows'): `push T V` with the type byte and the value, `push this`, `rd x`, `wr x`, `cons k`, `if n`, `not`, `op o`.
-use Rattle.std.specs.Prelude.{ℕ, suc, ◌<◌, Bool, true, false, List, [], ◌∷◌, ◌++◌, ℤ, pos, negsuc}
-use Rattle.types.specs.Types.{Ty, IsType, code}
+use Rattle.std.specs.Prelude.{ℕ, suc, true, false, List, [], ◌∷◌, ◌++◌, pos, negsuc}
+use Rattle.types.specs.Types.{IsType, code}
 use Rattle.types.specs.TypeBytes.{ValueOf}
 use Rattle.types.specs.Values.{Val, Val.int_val, Val.nat_val, Val.bool_val, Val.label}
 use Rattle.types.specs.Limits.{max_structs}
 use Rattle.program.specs.Encoding.{op_code}
-use Rattle.commands.specs.Commands.{Com, Com.push, Com.push_this, Com.rd, Com.wr, Com.cons, Com.not, Com.oper, Flat, Flat.plain, Flat.if_n}
+use Rattle.commands.specs.Commands.{Com.push, Com.push_this, Com.rd, Com.wr, Com.cons, Com.not, Com.oper, Flat, Flat.plain, Flat.if_n}
 use Rattle.text.specs.Listing.{decimal}
 
 -- in decimal, a minus sign before a negative Int, 0 or 1 for Bool, the label for a null

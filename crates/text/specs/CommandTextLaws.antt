@@ -1,15 +1,14 @@
 -- The text of a command's word is the command as 01 lists it; rows of every form.
-use Rattle.std.specs.Prelude.{ℕ, suc, ◌+◌, ◌*◌, ◌-◌, ◌/◌, ◌%◌, ◌<◌, ◌≡◌, refl, Bool, true, false, List, [], ◌∷◌, ◌++◌, ℤ, pos, negsuc}
-use Rattle.std.proofs.Common.{arith, sym, ap, ◌∙◌}
-use Rattle.types.specs.Limits.{int_half, nat_end, max_structs}
+use Rattle.std.specs.Prelude.{ℕ, suc, ◌+◌, ◌*◌, ◌-◌, ◌/◌, ◌%◌, ◌<◌, ◌≡◌, refl, true, false, ◌∷◌, pos, negsuc}
+use Rattle.std.proofs.Common.{arith, ap, ◌∙◌}
+use Rattle.types.specs.Limits.{nat_end, max_structs}
 use Rattle.types.specs.Types.{Ty, Ty.int, Ty.nat, Ty.bool, Ty.ref, IsType, code}
 use Rattle.types.specs.TypeBytes.{ValueOf}
 use Rattle.types.specs.Values.{Val, Val.int_val, Val.nat_val, Val.bool_val, Val.label, int_word, word}
 use Rattle.program.specs.Encoding.{op_code}
-use Rattle.program.specs.Tree.{Op.op_add}
-use Rattle.commands.specs.Commands.{Com, Com.push, Com.push_this, Com.rd, Com.wr, Com.cons, Com.not, Com.oper, Flat, Flat.plain, Flat.if_n}
+use Rattle.commands.specs.Commands.{Com.push, Com.push_this, Com.rd, Com.wr, Com.cons, Com.not, Com.oper, Flat, Flat.plain, Flat.if_n}
 use Rattle.commands.specs.Coding.{coded, com_word, command_word}
-use Rattle.text.specs.Listing.{digits, decimal, int_text, value_text, push_text, keyed, other_text, parts_text, text, column, line}
+use Rattle.text.specs.Listing.{decimal, value_text, push_text, keyed, other_text, parts_text, text}
 use Rattle.text.specs.TextLaws.{value_plain, value_positive, value_negative}
 use Rattle.text.specs.CommandText.{shown, command_text, Listed}
 
@@ -34,6 +33,18 @@ value_shown nat (nat_val n) h = value_plain 1 n (λ e. omega arith)
 value_shown bool (bool_val true) h = value_plain 2 1 (λ e. omega arith)
 value_shown bool (bool_val false) h = value_plain 2 0 (λ e. omega arith)
 value_shown (ref k) (label l) h = value_plain (16 + k) l (λ e. omega arith)
+value_shown int (nat_val n) h = elim h [ ]
+value_shown int (bool_val _) h = elim h [ ]
+value_shown int (label l) h = elim h [ ]
+value_shown nat (int_val _) h = elim h [ ]
+value_shown nat (bool_val _) h = elim h [ ]
+value_shown nat (label l) h = elim h [ ]
+value_shown bool (int_val _) h = elim h [ ]
+value_shown bool (nat_val n) h = elim h [ ]
+value_shown bool (label l) h = elim h [ ]
+value_shown (ref k) (int_val _) h = elim h [ ]
+value_shown (ref k) (nat_val n) h = elim h [ ]
+value_shown (ref k) (bool_val _) h = elim h [ ]
 
 type_byte : (t : Ty) → IsType max_structs t → code t < 256
 unfolding code

@@ -1,5 +1,5 @@
 -- The text of a command by the tests that lead to it.
-use Rattle.std.specs.Prelude.{ℕ, ◌-◌, ◌/◌, ◌%◌, ◌≤◌, ◌<◌, ◌≡◌, refl, List, [], ◌∷◌, ◌++◌, eqb, ltb}
+use Rattle.std.specs.Prelude.{ℕ, ◌-◌, ◌/◌, ◌%◌, ◌≤◌, ◌<◌, ◌≡◌, [], ◌∷◌, ◌++◌}
 use borrow.Author.Tests.{eq-eqb, ne_eqb, lt-ltb, le-ltb}
 use Rattle.types.specs.Limits.{int_half, nat_end}
 use Rattle.text.specs.Listing.{decimal, int_text, value_text, push_text, keyed, other_text, parts_text, text}

@@ -1,5 +1,6 @@
 // Text placed in a lent buffer: bytes, decimal numbers, a command (01, 'Bench rows'). Each function answers where writing goes on.
 #![tactic(auto)]
+
 pub mod lines;
 
 ghost use Rattle.std.specs.Prelude.{[], ◌∷◌, ◌+◌, ◌<◌, ◌≤◌, length, drop};

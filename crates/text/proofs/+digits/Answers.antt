@@ -1,5 +1,5 @@
 -- `text::digits` meets its contract: no digit, one, or those of a tenth and the last. The measure is how many may be written.
-use Rattle.std.proofs.Common.{◌<◌, arith, ◌∙◌}
+use Rattle.std.proofs.Common.{arith, ◌∙◌}
 use Rattle.text.specs.ListingLaws.{digits_none, digits_one, digits_more, placed_none, placed_as, placed_on}
 use Rattle.text.proofs.+digits.Goals as goal
 
@@ -21,8 +21,7 @@ pub overflow_sub-w : goal.overflow_sub-w
 overflow_sub-w t c = omega (arith, c.if-w-eq0.false)
 
 pub digits-i-requires : goal.digits-i-requires
-digits-i-requires t c =
-    (
+digits-i-requires t c = (
   omega (arith, c.requires, c.if-w-eq0.false),
   omega (arith, c.requires, c.if-w-eq0.false),
 )

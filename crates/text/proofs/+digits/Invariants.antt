@@ -1,4 +1,3 @@
-use Rattle.std.proofs.Common.{◌<◌, ◌∙◌}
 use Rattle.text.proofs.+digits.Given as goal
 
 abbrev pub decreases-digits : goal.decreases-digits

@@ -1,5 +1,5 @@
 -- `text::from` meets its contract. The measure is the bytes that are left.
-use Rattle.std.proofs.Common.{◌<◌, ◌-◌, length, arith, ◌∙◌, ap}
+use Rattle.std.proofs.Common.{length, arith, ◌∙◌, ap}
 use Rattle.types.proofs.Laws.ListLaws.{drop_next}
 use Rattle.text.specs.ListingLaws.{drop_end, placed_none, placed_as, placed_on}
 use Rattle.text.proofs.+from.Goals as goal
@@ -14,17 +14,16 @@ pub overflow_add-i : goal.overflow_add-i
 overflow_add-i t c = omega (arith, c.if-t-i.false)
 
 pub from-requires : goal.from-requires
-from-requires t c =
-    (
-      omega (arith, c.requires, c.if-t-i.false),
-      omega (
-        arith,
-        c.requires,
-        c.byte-next.auto.out,
-        c.byte-next.ensures.end,
-        ap length (drop_next c.args.t.now c.args.i c.if-t-i.false),
-      ),
-    )
+from-requires t c = (
+  omega (arith, c.requires, c.if-t-i.false),
+  omega (
+    arith,
+    c.requires,
+    c.byte-next.auto.out,
+    c.byte-next.ensures.end,
+    ap length (drop_next c.args.t.now c.args.i c.if-t-i.false),
+  ),
+)
 
 pub shape_of-out : goal.shape_of-out
 shape_of-out t c = c.from.auto.out ∙ c.byte-next.auto.out

@@ -1,4 +1,4 @@
-use Rattle.std.proofs.Common.{◌<◌, ◌-◌, length, ◌∙◌}
+use Rattle.std.proofs.Common.{◌-◌, length}
 use Rattle.text.proofs.+from.Given as goal
 
 abbrev pub decreases-from : goal.decreases-from

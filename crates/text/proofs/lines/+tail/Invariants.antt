@@ -1,4 +1,4 @@
-use Rattle.std.proofs.Common.{◌<◌, ◌-◌, ◌∙◌, length}
+use Rattle.std.proofs.Common.{◌-◌, length}
 use Rattle.text.proofs.lines.+tail.Given as goal
 
 abbrev pub decreases-tail : goal.decreases-tail
