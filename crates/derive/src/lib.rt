@@ -1,6 +1,7 @@
 // Whether a text's tokens have a derivation (02 §1, §2), and the role that it gives each of them: token by token over a lent stack, so that no function follows
 // the nesting of the text.
 #![tactic(auto)]
+
 pub mod roles;
 pub mod table;
 

@@ -1,5 +1,5 @@
 -- What a text means is in range, where its declarations and its locals are few.
-use Rattle.std.specs.Prelude.{ℕ, suc, ◌-◌, ◌<◌, ◌≤◌, ◌≡◌, refl, true, List, [], ◌∷◌, map, ℤ, pos, negsuc, length, get_or, ltb}
+use Rattle.std.specs.Prelude.{ℕ, suc, ◌<◌, ◌≤◌, ◌≡◌, refl, true, List, [], ◌∷◌, map, ℤ, pos, negsuc, length, get_or}
 use native.Mathlib.Omega.{arith}
 use Rattle.std.proofs.Common.{sym, ap, ◌∙◌, ltb-true}
 use Rattle.types.specs.Limits.{max_structs, max_params, nat_end, first_local, max_locals, step_names as max_names}
@@ -10,7 +10,7 @@ use Rattle.program.specs.Counts.{All, Few, IsVar}
 use Rattle.tokens.specs.Laws.ByteLaws.{both_true}
 use Rattle.syntax.specs.Syntax.{Id, TypeName, Literal, Var, Exp, Exps, Stat, Stats, Par, Step, Struct, Item, Sched, Defs, Defs.last_struct, Defs.defs}
 use Rattle.syntax.specs.Syntax.{Program.program}
-use Rattle.meaning.specs.Scope.{Found, Found.here, Found.later, Each, Each.no_more, Each.and_then, par_id, struct_id, pars_of, steps_of, structs_of, Local}
+use Rattle.meaning.specs.Scope.{Found, Found.here, Found.later, Each, Each.no_more, Each.and_then, par_id, struct_id, pars_of, structs_of, Local}
 use Rattle.meaning.specs.Scope.{local_number}
 use Rattle.meaning.specs.StepNames.{step_names}
 use Rattle.meaning.specs.HoldsDecide.{all}

@@ -5,7 +5,6 @@ use Rattle.std.proofs.Common.{arith, zero-add, suc-add, add-one, ◌∙◌, leng
 use Rattle.std.specs.Prelude.{◌≡◌, true, length, get_or, take, leb, ltb}
 use Rattle.std.proofs.Math.Path.{refl, sym, ap}
 use mathlib.Core.List.{List, [], ◌∷◌, ◌++◌, map}
-use Rattle.std.proofs.Math.Option.{some}
 use Rattle.std.proofs.Math.ListN.{drop}
 use Rattle.std.proofs.lemmas.List.{length-map}
 use Rattle.std.proofs.Math.Seq.{slice, take-nil, take_at, drop_at}

@@ -1,6 +1,6 @@
 -- What stands in the places of a text is written as its roles are, where every literal is of its type, which the pass over uses has seen; so that the stream of
 -- what the text means is left, its first byte still waiting.
-use Rattle.std.specs.Prelude.{ℕ, suc, ◌+◌, ◌<◌, ◌≡◌, Bool, true, false, ◌⊎◌, drop, eqb, ltb}
+use Rattle.std.specs.Prelude.{ℕ, suc, ◌+◌, ◌<◌, ◌≡◌, Bool, true, false, ◌⊎◌, drop, ltb}
 use Rattle.std.proofs.Common.{arith, add-zero, add-one, ◌∙◌, inl, inr, get_or-drop, drop-drop}
 use Rattle.std.proofs.Math.Path.{refl, sym, ap}
 use mathlib.Core.List.{List, [], ◌∷◌}

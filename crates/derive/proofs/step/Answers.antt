@@ -1,5 +1,5 @@
 -- `step` meets its contract: the bytes of the source are those that the acts give, one by one.
-use Rattle.std.proofs.Common.{◌≡◌, refl, rules}
+use Rattle.std.proofs.Common.{refl, rules}
 use Rattle.syntax.specs.Expecting.{word_number, sign_number, on_word, on_sign, on_name, on_op, less, on_less, literal_word, on_literal, type_word, on_type_word}
 use Rattle.syntax.specs.Expecting.{on_type}
 use Rattle.text_shape.specs.Shape.{on_exp, on_item, past_item, acts, act, samples, sample}

@@ -1,6 +1,6 @@
 -- `walk` meets its contract. The loop's invariant: state and stack are the shape over the kinds passed, the stack is no higher than places were passed, and
 -- what is left leads to the roles of the whole; a token begins at the next place. The measure is what is left of the kinds.
-use Rattle.std.proofs.Common.{◌-◌, ◌<◌, ap, ◌∙◌, arith, length}
+use Rattle.std.proofs.Common.{◌<◌, ap, ◌∙◌, arith, length}
 use Rattle.derive.specs.LoopLaws.{length_left, reached_start, reached_token, reached_gap, reached_end}
 use Rattle.derive.proofs.walk.Goals as goal
 

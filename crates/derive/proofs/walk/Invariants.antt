@@ -1,4 +1,4 @@
-use Rattle.std.proofs.Common.{◌-◌, ◌<◌, ◌∙◌, length}
+use Rattle.std.proofs.Common.{◌-◌, length}
 use Rattle.lexer.specs.Gaps.{Token}
 use Rattle.derive.specs.LoopLaws.{Reached}
 use Rattle.derive.proofs.walk.Given as goal

@@ -1,5 +1,5 @@
 -- `declarations::narrow` meets its contract. The loop's invariant: the rows before i have few steps. The measure is what is left of the rows.
-use Rattle.std.proofs.Common.{◌-◌, sym, ◌∙◌, arith}
+use Rattle.std.proofs.Common.{sym, ◌∙◌, arith}
 use Rattle.resolve.specs.Laws.CheckLaws.{paired_start, paired_not, paired_on, paired_end}
 use Rattle.resolve.specs.Checks.{narrow}
 use Rattle.resolve.proofs.declarations.narrow.Goals as goal

@@ -1,4 +1,4 @@
-use Rattle.std.proofs.Common.{◌-◌, ◌∙◌, length, leb}
+use Rattle.std.proofs.Common.{◌-◌, length, leb}
 use Rattle.types.specs.Limits.{max_steps}
 use Rattle.resolve.specs.Laws.CheckLaws.{Paired}
 use Rattle.resolve.proofs.declarations.narrow.Given as goal

@@ -1,8 +1,8 @@
 -- `declarations::rows_ok` meets its contract. The loop's invariant: the rows before i are of few parameters with different names. The measure is what is left
 -- of the rows.
-use Rattle.std.proofs.Common.{◌-◌, sym, ◌∙◌, arith}
+use Rattle.std.proofs.Common.{sym, ◌∙◌, arith}
 use Rattle.resolve.specs.Laws.CheckLaws.{paired_start, paired_not, paired_on, paired_end}
-use Rattle.resolve.specs.Checks.{row_ok, rows_ok}
+use Rattle.resolve.specs.Checks.{rows_ok}
 use Rattle.resolve.proofs.declarations.rows_ok.Goals as goal
 
 pub loop-i-init : goal.loop-i-init

@@ -1,4 +1,4 @@
-use Rattle.std.proofs.Common.{◌-◌, ◌∙◌, length}
+use Rattle.std.proofs.Common.{◌-◌, length}
 use Rattle.resolve.specs.Laws.CheckLaws.{Paired}
 use Rattle.resolve.specs.Checks.{row_ok}
 use Rattle.resolve.proofs.declarations.rows_ok.Given as goal

@@ -1,5 +1,5 @@
 -- `declarations::step_names` meets its contract. The loop's invariant: the names that are left complete the table. The measure is what is left of the places.
-use Rattle.std.proofs.Common.{◌-◌, arith}
+use Rattle.std.proofs.Common.{arith}
 use Rattle.resolve.specs.Laws.FirstLaws.{firsting_start, firsting_on, firsting_kept, firsting_over, firsting_end}
 use Rattle.resolve.proofs.declarations.step_names.Goals as goal
 

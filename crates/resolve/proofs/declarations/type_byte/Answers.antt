@@ -10,13 +10,13 @@ returns-then-n-lt3 c = byte_small _ _ _ c.if-n-lt3.true
 pub overflow_add-result : goal.overflow_add-result
 overflow_add-result c =
     omega (
-  arith,
-  c.lookup.ensures,
-  sought_within
-      (name_at c.args.text.now c.args.at)
-      c.args.text.now c.args.structs.now,
-  c.requires,
-)
+      arith,
+      c.lookup.ensures,
+      sought_within
+          (name_at c.args.text.now c.args.at)
+          c.args.text.now c.args.structs.now,
+      c.requires,
+    )
 
 pub returns : goal.returns
 returns c = byte_named _ _ _ _ c.if-n-lt3.false c.lookup.ensures

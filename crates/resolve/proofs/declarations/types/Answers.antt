@@ -1,5 +1,5 @@
 -- `declarations::types` meets its contract. The loop's invariant: the types that are left complete the table. The measure is what is left of the places.
-use Rattle.std.proofs.Common.{◌-◌, arith}
+use Rattle.std.proofs.Common.{arith}
 use Rattle.std.proofs.lemmas.Bool.{false≢true}
 use Rattle.resolve.specs.Laws.CheckLaws.{typing_start, typing_not, typing_on, typing_end, typing_stored, of_type}
 use Rattle.resolve.proofs.declarations.types.Goals as goal

@@ -1,5 +1,5 @@
 -- `literals::value` meets its contract. The loop's invariant: the digits come to n and those from i on. The measure is what is left of the text.
-use Rattle.std.proofs.Common.{◌-◌, refl, sym, ◌∙◌, arith}
+use Rattle.std.proofs.Common.{refl, sym, ◌∙◌, arith}
 use Rattle.meaning.specs.Values.{decimal}
 use Rattle.resolve.specs.Laws.DigitLaws.{added_on, added_end, digit_told}
 use Rattle.resolve.proofs.literals.value.Goals as goal

@@ -1,4 +1,4 @@
-use Rattle.std.proofs.Common.{◌-◌, ◌∙◌, length}
+use Rattle.std.proofs.Common.{◌-◌, length}
 use Rattle.resolve.specs.Laws.DigitLaws.{Added}
 use Rattle.resolve.proofs.literals.value.Given as goal
 

@@ -1,5 +1,5 @@
 -- `names::lookup` meets its contract. The loop's invariant: the search goes on from i. The measure is what is left of the table.
-use Rattle.std.proofs.Common.{◌-◌, sym, ◌∙◌, arith}
+use Rattle.std.proofs.Common.{sym, ◌∙◌, arith}
 use Rattle.resolve.specs.Laws.NamedLaws.{seeks_here, seeks_on, seeks_out}
 use Rattle.resolve.proofs.names.lookup.Goals as goal
 

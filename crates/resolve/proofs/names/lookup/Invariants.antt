@@ -1,4 +1,4 @@
-use Rattle.std.proofs.Common.{◌-◌, ◌∙◌, length}
+use Rattle.std.proofs.Common.{◌-◌, length}
 use Rattle.resolve.specs.Named.{name_at}
 use Rattle.resolve.specs.Laws.NamedLaws.{Seeks}
 use Rattle.resolve.proofs.names.lookup.Given as goal

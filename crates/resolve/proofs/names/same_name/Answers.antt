@@ -1,5 +1,5 @@
 -- `names::same_name` meets its contract. The loop's invariant: the names are the same if what is left of them is. The measure is what is left of the text.
-use Rattle.std.proofs.Common.{◌-◌, refl, ◌∙◌, arith}
+use Rattle.std.proofs.Common.{refl, arith}
 use Rattle.resolve.specs.Laws.NamedLaws.{alike_inside, alike_end, byte_on, byte_inside, byte_not}
 use Rattle.resolve.proofs.names.same_name.Goals as goal
 

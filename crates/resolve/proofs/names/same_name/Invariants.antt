@@ -1,4 +1,4 @@
-use Rattle.std.proofs.Common.{◌-◌, ◌∙◌, length}
+use Rattle.std.proofs.Common.{◌-◌, length}
 use Rattle.resolve.specs.Laws.NamedLaws.{Alike}
 use Rattle.resolve.proofs.names.same_name.Given as goal
 

@@ -1,5 +1,5 @@
 -- `tables::distinct` meets its contract. The loop's invariant: no name before i stands again behind it. The measure is what is left of the table.
-use Rattle.std.proofs.Common.{◌-◌, refl, arith}
+use Rattle.std.proofs.Common.{refl, arith}
 use Rattle.resolve.specs.Laws.TableLaws.{differ_not, differ_on, differ_end}
 use Rattle.resolve.proofs.tables.distinct.Goals as goal
 
