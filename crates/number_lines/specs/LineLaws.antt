@@ -7,7 +7,7 @@ use Rattle.std.proofs.Math.ListN.{length, get_or, drop, length-append, drop_of_l
 use Rattle.std.proofs.Math.Seq.{sets, drop-cons, length-sets}
 use borrow.Author.Tests.{lt-ltb, le-ltb}
 use Rattle.emit.specs.Laws.WrittenLaws.{sets_append}
-use Rattle.text.specs.Listing.{Placed, decimal}
+use Rattle.text.specs.Listing.{Placed}
 use Rattle.number_lines.specs.Lines.{separator, sign, word_text, last_end, words_text, lines}
 
 module _ (w : ℕ) where

@@ -1,5 +1,6 @@
 // Words of `numbers` as text (docs/FORMAT.md, 'Tables as text'): numbers in decimal, one behind the other on their lines.
 #![tactic(auto)]
+
 ghost use Rattle.std.specs.Prelude.{◌+◌, ◌*◌, ◌≤◌, ◌<◌, length};
 ghost use Rattle.text.specs.Listing.{Placed};
 ghost use Rattle.number_lines.specs.Lines.{separator, sign, word_text, last_end, lines};
