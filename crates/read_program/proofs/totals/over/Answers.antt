@@ -1,0 +1,16 @@
+-- `totals::over` meets its contract: a step has too many commands, goes too deep, or neither.
+use Rattle.std.proofs.Common.{lt-ltb, le-ltb}
+use Rattle.read_program.specs.Total.{over_by}
+use Rattle.read_program.proofs.totals.over.Goals as goal
+
+pub returns-then-d-gt-STEP_COMMANDS : goal.returns-then-d-gt-STEP_COMMANDS
+unfolding over_by
+returns-then-d-gt-STEP_COMMANDS c = simp (over_by, lt-ltb _ _ c.if-d-gt-STEP_COMMANDS.true)
+
+pub returns-then-d-gt-MAX_DEPTH : goal.returns-then-d-gt-MAX_DEPTH
+unfolding over_by
+returns-then-d-gt-MAX_DEPTH c = simp (over_by, le-ltb _ _ c.if-d-gt-STEP_COMMANDS.false, lt-ltb _ _ c.if-d-gt-MAX_DEPTH.true)
+
+pub returns : goal.returns
+unfolding over_by
+returns c = simp (over_by, le-ltb _ _ c.if-d-gt-STEP_COMMANDS.false, le-ltb _ _ c.if-d-gt-MAX_DEPTH.false)
