@@ -13,29 +13,29 @@ use Rattle.verdict.specs.Verdict.{checked, refusal, check_verdict}
 use Rattle.tokens.specs.Tokens.{Token}
 use Rattle.tokens.specs.Lexing.{Lexed}
 use Rattle.tokens.specs.Straying.{Strays}
-use Rattle.tokens.specs.Laws.LexingLaws.{lexed_one as lexed_law}
-use Rattle.tokens.specs.Laws.StrayLaws.{no_tokens_exactly as straying_law}
+use Rattle.tokens.proofs.Laws.LexingLaws.{lexed_one as lexed_law}
+use Rattle.tokens.proofs.Laws.StrayLaws.{no_tokens_exactly as straying_law}
 use Rattle.syntax.specs.Syntax.{Exp, Exp.binary, Program as Derivation}
 use Rattle.syntax.specs.Yield.{yield}
 use Rattle.syntax.specs.Bracketing.{level, comparisons, Fits, Derives}
 use Rattle.syntax.specs.Bracketed.{BracketedProgram, NoComparison}
-use Rattle.syntax.specs.Laws.CompleteLaws.{one_derivation as derivation_law}
-use Rattle.syntax.specs.Laws.BracketLaws.{brackets_kept as brackets_law, no_two_comparisons as comparisons_law}
-use Rattle.syntax.specs.SumRows.{compared, two_compared as compared_law}
+use Rattle.syntax.proofs.Laws.CompleteLaws.{one_derivation as derivation_law}
+use Rattle.syntax.proofs.Laws.BracketLaws.{brackets_kept as brackets_law, no_two_comparisons as comparisons_law}
+use Rattle.syntax.proofs.SumRows.{compared, two_compared as compared_law}
 use Rattle.meaning.specs.Holds.{max_stream}
 use Rattle.meaning.specs.Means.{Means}
 use Rattle.meaning.specs.Nesting.{Shallow}
 use Rattle.source.specs.Source.{Derived, Reading, NoTokens, NoProgram, text_order}
 use Rattle.source.specs.Causes.{Cause}
 use Rattle.source.specs.TextReader.{outcome, text_number, text_blocks, text_output}
-use Rattle.source.specs.Laws.SourceLaws.{derived_one as derived_law, one_reading as reading_law, text_refused_exactly as refused_law}
-use Rattle.source.specs.Laws.SourceLaws.{text_written as written_law}
-use Rattle.source.specs.Laws.SourceLaws.{text_untouched as untouched_law, escapes_16 as escapes_law}
-use Rattle.source.specs.Laws.CauseLaws.{no_program_exactly as causes_law}
+use Rattle.source.proofs.Laws.SourceLaws.{derived_one as derived_law, one_reading as reading_law, text_refused_exactly as refused_law}
+use Rattle.source.proofs.Laws.SourceLaws.{text_written as written_law}
+use Rattle.source.proofs.Laws.SourceLaws.{text_untouched as untouched_law, escapes_16 as escapes_law}
+use Rattle.source.proofs.Laws.CauseLaws.{no_program_exactly as causes_law}
 use Rattle.source.specs.Stepping.{StepsRight}
 use Rattle.source.specs.Checking.{Answers, written_image, text_verdict, both_order}
-use Rattle.source.specs.Laws.CheckingLaws.{bytes_blocks, image_written, text_answered as answered_law, deep_exactly, seven_for_steps}
-use Rattle.source.specs.Laws.CheckingLaws.{text_checked as checked_law, text_order_exact as order_law}
+use Rattle.source.proofs.Laws.CheckingLaws.{bytes_blocks, image_written, text_answered as answered_law, deep_exactly, seven_for_steps}
+use Rattle.source.proofs.Laws.CheckingLaws.{text_checked as checked_law, text_order_exact as order_law}
 
 -- "The longest token is taken first": a text parts into tokens in one way at most,
 pub lexed_one : {x : List ℕ} {ts us : List Token} → Lexed x ts → Lexed x us → ts ≡ us

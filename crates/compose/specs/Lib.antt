@@ -5,4 +5,3 @@ pub mod Standing
 pub mod Ranged
 pub mod Header
 pub mod Composed
-pub mod Laws

@@ -6,14 +6,14 @@ use Rattle.std.proofs.Math.Bool.{true, false}
 use Rattle.std.proofs.Math.Seq.{drop-length}
 use Rattle.std.proofs.Math.Dec.{eqb}
 use borrow.Author.Tests.{eqb-true, leb-true, leb-false, le-leb, lt-leb}
-use Rattle.tokens.specs.Laws.ByteLaws.{both_true}
+use Rattle.tokens.proofs.Laws.ByteLaws.{both_true}
 use Rattle.derive.specs.Held.{held}
 use Rattle.lexer.specs.Gaps.{Gap}
 use Rattle.lexer.specs.GapLaws.{gap_back}
 use Rattle.compose.specs.Writing.{Writing, Writing.writing, behinds, pourings, stackings, formed, spelt, put, start}
 use Rattle.composing.specs.Pens.{stands, Near}
 use Rattle.compose.specs.Fits.{kept, value_at, writes_at, fits, within}
-use Rattle.compose.specs.Laws.FitsLaws.{put_unfit, within_unfit, fits_within, within_one}
+use Rattle.compose.proofs.Laws.FitsLaws.{put_unfit, within_unfit, fits_within, within_one}
 use Rattle.composing.specs.declared.Pen.{Pen}
 use Rattle.composing.specs.Sizes.{margin}
 

@@ -7,7 +7,7 @@ use borrow.Author.Tests.{eq-eqb, ne_eqb, lt-ltb, le-ltb}
 use Rattle.derive.specs.Held.{held}
 use Rattle.compose.specs.Writing.{Writing.writing, tightness, pour, poured, passed, begun}
 use Rattle.compose.specs.Fits.{kept, within}
-use Rattle.compose.specs.Laws.FitsLaws.{within_unfit, passed_within, pour_unfit}
+use Rattle.compose.proofs.Laws.FitsLaws.{within_unfit, passed_within, pour_unfit}
 use Rattle.composing.specs.Pens.{stands, Spoilt, Popped, Near, Poured}
 use Rattle.composing.specs.PenLaws.{drop_front, held_top, held_none, spoilt_stands, popped_stands}
 use Rattle.composing.specs.declared.Pen.{Pen}

@@ -6,7 +6,7 @@ use Rattle.resolve.specs.declared.Word.{Word}
 use Rattle.resolve.specs.declared.Word.TheVariants.{Of, Outside}
 use Rattle.compose.specs.Writing.{op_shift, Writing, formed, behinds, pourings, stackings, behind_marks, forms, stack_marks, pour_marks, spelt, put}
 use Rattle.compose.specs.Fits.{kept, word_value, within}
-use Rattle.compose.specs.Laws.FitsLaws.{formed_alike, stacked_alike, kept_within, spelt_within}
+use Rattle.compose.proofs.Laws.FitsLaws.{formed_alike, stacked_alike, kept_within, spelt_within}
 use Rattle.text_shape.specs.RoleNames.{role_count}
 
 -- By a mark ------------------------------------------------------------------------------------------

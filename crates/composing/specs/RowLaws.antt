@@ -3,7 +3,7 @@ use Rattle.std.specs.Prelude.{ℕ, zero, suc, ◌+◌, ◌-◌, ◌*◌, ◌<◌
 use Rattle.std.proofs.Common.{arith, add-one, sub-one, sym, ap, ◌∙◌, append_assoc, length-set}
 use Rattle.std.proofs.Math.Seq.{slice, slice_empty, slice-cons}
 use Rattle.compose.specs.Header.{row_of, header, Rows}
-use Rattle.compose.specs.Laws.HeaderLaws.{row_is, rest, none_left, parts_on, parts_count}
+use Rattle.compose.proofs.Laws.HeaderLaws.{row_is, rest, none_left, parts_on, parts_count}
 use Rattle.composing.specs.PenLaws.{drop_front}
 use Rattle.composing.specs.Sizes.{front_most}
 

@@ -9,7 +9,7 @@ use Rattle.std.proofs.Math.ListN.{take, drop}
 use Rattle.std.proofs.Math.Seq.{drop-drop}
 use Rattle.std.proofs.Math.Dec.{eqb}
 use Rattle.types.proofs.Laws.ListLaws.{drop_next, eqb_sym}
-use Rattle.tokens.specs.Laws.ByteLaws.{both_true}
+use Rattle.tokens.proofs.Laws.ByteLaws.{both_true}
 use Rattle.program.specs.Tree.{Op.op_ne, Op.op_le, Op.op_ge, Op.op_lt, Op.op_gt, Op.op_and, Op.op_or}
 use Rattle.tokens.specs.Tokens.{Sign.colon, Sign.assign, Sign.bang, Token, Token.sign, Token.op, Token.int, Token.nat, nat_end_byte, letter, digit}
 use Rattle.tokens.specs.Tokens.{name_byte, blank, op_spelling, sign_spelling, spelling}

@@ -9,7 +9,7 @@ use mathlib.Core.List.{List, [], ◌∷◌, map}
 use Rattle.std.proofs.Math.Option.{Option, none, some}
 use Rattle.types.specs.Decides.{Decides, decides_both}
 use Rattle.tokens.specs.Tokens.{same}
-use Rattle.tokens.specs.Laws.ByteLaws.{same_true}
+use Rattle.tokens.proofs.Laws.ByteLaws.{same_true}
 use Rattle.syntax.specs.Syntax.{Id}
 use Rattle.meaning.specs.Scope.{Found, Found.here, Found.later, Absent, Distinct}
 

@@ -12,4 +12,3 @@ pub mod Meant
 pub mod Unfold
 pub mod Rows
 pub mod ReadRows
-pub mod Laws

@@ -11,7 +11,7 @@ use Rattle.resolve.specs.Checks.{part_of}
 use Rattle.resolve.specs.Resolved.{resolved}
 use Rattle.compose.specs.Header.{Rows}
 use Rattle.compose.specs.Composed.{composed, composed_by, type_bytes}
-use Rattle.compose.specs.Laws.StreamLaws.{resolved_rows}
+use Rattle.compose.proofs.Laws.StreamLaws.{resolved_rows}
 use Rattle.uses.specs.Declaring.{Tabled}
 use Rattle.uses.specs.Lent.{numbered_in, Counted}
 use Rattle.uses.specs.declared.Numbered.{Numbered}

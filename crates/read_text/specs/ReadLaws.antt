@@ -3,7 +3,7 @@ use Rattle.std.specs.Prelude.{ℕ, ◌≡◌, List}
 use Rattle.std.proofs.Common.{ap, ◌∙◌}
 use Rattle.meaning.specs.Meant.{meant}
 use Rattle.source.specs.TextReader.{of_program}
-use Rattle.compose.specs.Laws.StreamLaws.{stream_meant}
+use Rattle.compose.proofs.Laws.StreamLaws.{stream_meant}
 use Rattle.read_text.specs.Ending.{ended, ending}
 use Rattle.read_text.specs.EndingLaws.{program_ends}
 use Rattle.read_text.specs.Roled.{Roled, stream_of}

@@ -14,15 +14,15 @@ use Rattle.tokens.specs.Scanning.{lex}
 use Rattle.syntax.specs.Syntax.{Program as Derivation}
 use Rattle.syntax.specs.Bracketing.{Derives}
 use Rattle.syntax.specs.Reading.{read}
-use Rattle.syntax.specs.Laws.CompleteLaws.{derives_read, derived_exact}
+use Rattle.syntax.proofs.Laws.CompleteLaws.{derives_read, derived_exact}
 use Rattle.meaning.specs.Meant.{meant}
 use Rattle.tokens.specs.Kinds.{kind}
 use Rattle.tokens.specs.Marking.{marks, found, parts, kinds_in}
-use Rattle.tokens.specs.Laws.MarkingLaws.{marks_tell}
+use Rattle.tokens.proofs.Laws.MarkingLaws.{marks_tell}
 use Rattle.text_shape.specs.Shape.{Shape.shape, derived}
-use Rattle.text_shape.specs.Laws.KindShapeLaws.{derived_derives}
+use Rattle.text_shape.proofs.Laws.KindShapeLaws.{derived_derives}
 use Rattle.text_shape.specs.RoleMarks.{role_codes, placed}
-use Rattle.text_shape.specs.Laws.RoleMarkLaws.{text_roles}
+use Rattle.text_shape.proofs.Laws.RoleMarkLaws.{text_roles}
 use Rattle.text_shape.specs.Roles.{code, roles}
 use Rattle.resolve.specs.Standing.{Stood}
 use Rattle.resolve.specs.Laws.StandingLaws.{derivation_stands}

@@ -6,7 +6,4 @@ pub mod Stepping
 pub mod Checking
 pub mod Rows
 pub mod Streamed
-pub mod TextRows
-pub mod DeepRows
 pub mod CountRows
-pub mod Laws

@@ -10,5 +10,3 @@ pub mod Unfold
 pub mod Letters
 pub mod Rows
 pub mod LevelRows
-pub mod Laws
-pub mod SumRows

@@ -15,7 +15,7 @@ use Rattle.source.specs.Source.{max_text}
 use Rattle.tokens.specs.Tokens.{Token}
 use Rattle.tokens.specs.Scanning.{front, lex}
 use Rattle.tokens.specs.Marking.{spot_of, at_spot, marks_of, marks_from, marks, found, parts, kinds_in}
-use Rattle.tokens.specs.Laws.MarkingLaws.{marks_tell, spot_inside, marks_taken, marks_stray}
+use Rattle.tokens.proofs.Laws.MarkingLaws.{marks_tell, spot_inside, marks_taken, marks_stray}
 use Rattle.tokens.specs.declared.Spot.{Spot}
 use Rattle.tokens.specs.declared.Spot.TheVariants.{Marked, Stray}
 use Rattle.text_shape.specs.Shape.{Shape, Shape.shape, sample, move, derived}

@@ -3,4 +3,3 @@ pub mod RoleNames
 pub mod Roles
 pub mod Shape
 pub mod RoleMarks
-pub mod Laws

@@ -10,4 +10,3 @@ pub mod Marking
 pub mod Unfold
 pub mod Rows
 pub mod ByteRows
-pub mod Laws

@@ -1,6 +1,6 @@
 -- `mark` meets its contract. The loop's invariant: what is behind leads to the answer and to the marks of the whole. The measure is what is left.
 use Rattle.std.proofs.Common.{◌+◌, ◌≤◌, refl, sym, ◌∙◌, arith, length}
-use Rattle.tokens.specs.Laws.MarkingLaws.{reached_end, reached_stray, reached_next, ends_inside}
+use Rattle.tokens.proofs.Laws.MarkingLaws.{reached_end, reached_stray, reached_next, ends_inside}
 use Rattle.lexer.proofs.mark.Goals as goal
 
 pub loop-i-init : goal.loop-i-init

@@ -1,5 +1,5 @@
 use Rattle.std.proofs.Common.{◌-◌, length}
-use Rattle.tokens.specs.Laws.MarkingLaws.{Reached}
+use Rattle.tokens.proofs.Laws.MarkingLaws.{Reached}
 use Rattle.lexer.proofs.mark.Given as goal
 
 abbrev pub invariant-loop-i : goal.invariant-loop-i

@@ -9,7 +9,7 @@ use Rattle.types.proofs.Laws.ListLaws.{drop_next}
 use Rattle.tokens.specs.Tokens.{between}
 use Rattle.syntax.specs.Syntax.{Id, TypeName, TypeName.int_type, TypeName.nat_type, TypeName.bool_type, TypeName.id_type}
 use Rattle.syntax.specs.Yield.{type_token}
-use Rattle.tokens.specs.Laws.KindLaws.{kind_within}
+use Rattle.tokens.proofs.Laws.KindLaws.{kind_within}
 use Rattle.text_shape.specs.Roles.{Naming, Naming.new_struct, Naming.new_par, Naming.new_step, Naming.new_local, Naming.first_read, Naming.first_written}
 use Rattle.text_shape.specs.Roles.{Naming.later_variable, Naming.made, Naming.made_statement, Naming.called, Naming.called_struct}
 use Rattle.text_shape.specs.Roles.{Naming.called_step, Typed.of_par}

@@ -20,8 +20,8 @@ use Rattle.meaning.specs.HoldsDecide.{all, holds, decides_holds}
 use Rattle.meaning.specs.Holds.{Holds}
 use Rattle.meaning.specs.Meant.{then, provided, each, pars_meaning, meant}
 use Rattle.meaning.specs.Means.{Means}
-use Rattle.meaning.specs.Laws.MeantLaws.{meant_means}
-use Rattle.meaning.specs.Laws.MeantComplete.{means_meant}
+use Rattle.meaning.proofs.Laws.MeantLaws.{meant_means}
+use Rattle.meaning.proofs.Laws.MeantComplete.{means_meant}
 use Rattle.text_shape.specs.Roles.{naming_code, roles}
 use Rattle.resolve.specs.Named.{names_at}
 use Rattle.resolve.specs.Numbers.{few_steps}

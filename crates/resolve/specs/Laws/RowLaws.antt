@@ -10,7 +10,7 @@ use borrow.Author.Tests.{eq-eqb, ne_eqb}
 use Rattle.tokens.specs.Tokens.{Sign.colon, Word.w_struct, Token.sign, Token.word}
 use Rattle.syntax.specs.Syntax.{Par, Par.par, Struct, Struct.struct, Defs, Defs.last_struct, Defs.defs, Sched, Program.program}
 use Rattle.meaning.specs.Scope.{pars_of, steps_of, structs_of}
-use Rattle.tokens.specs.Laws.KindLaws.{kind_within}
+use Rattle.tokens.proofs.Laws.KindLaws.{kind_within}
 use Rattle.text_shape.specs.Roles.{Naming.new_struct, Naming.new_par, Naming.new_step, Typed, Typed.of_par, Typed.of_local, Typed.of_null, Part, Part.pars_open}
 use Rattle.text_shape.specs.Roles.{Part.pars_close, Part.steps_open, Part.steps_close, Role, Role.plain, Role.naming, Role.typed, Role.part, naming_code}
 use Rattle.text_shape.specs.Roles.{typed_code, part_code, code}

@@ -7,12 +7,12 @@ use Rattle.tokens.specs.Tokens.{Token, Token.word, Token.sign, Token.op, Token.n
 use Rattle.tokens.specs.Tokens.{nat_end_byte}
 use Rattle.tokens.specs.Scanning.{Front, Front.token, Front.gap, Front.nothing, span, signs, find_sign, begins, class, signed, opens, closing, after_star}
 use Rattle.tokens.specs.Scanning.{comment_front, nat_front, other_front, front_of, front, added, taken, lex}
-use Rattle.tokens.specs.Laws.NamedLaws.{Found, Found.a_word, Found.a_name, found, plain, all_plain, signs_plain}
+use Rattle.tokens.proofs.Laws.NamedLaws.{Found, Found.a_word, Found.a_name, found, plain, all_plain, signs_plain}
 use Rattle.tokens.specs.Kinds.{kind}
-use Rattle.tokens.specs.Laws.KindLaws.{kind_within}
+use Rattle.tokens.proofs.Laws.KindLaws.{kind_within}
 use Rattle.tokens.specs.Marking.{spot_of, at_spot, marks_of, marks_from, marks}
 use Rattle.text_shape.specs.Roles.{Role, code, token_of, roles}
-use Rattle.text_shape.specs.Laws.RoleLaws.{roles_yield}
+use Rattle.text_shape.proofs.Laws.RoleLaws.{roles_yield}
 use Rattle.syntax.specs.Syntax.{Program}
 use Rattle.syntax.specs.Bracketing.{Derives}
 use Rattle.text_shape.specs.RoleMarks.{placed}

@@ -9,7 +9,7 @@ use Rattle.tokens.specs.Tokens.{Sign.bang, Polarity, Token, Token.word, Token.si
 use Rattle.tokens.specs.TokenNumbers.{sign_number}
 use Rattle.tokens.specs.Scanning.{polarity}
 use Rattle.tokens.specs.Kinds.{kind, word_kind, op_kind, sign_kind}
-use Rattle.tokens.specs.Laws.KindLaws.{kind_within, word_within, op_within}
+use Rattle.tokens.proofs.Laws.KindLaws.{kind_within, word_within, op_within}
 use Rattle.syntax.specs.Syntax.{TypeName, TypeName.int_type, TypeName.nat_type, TypeName.bool_type, TypeName.id_type}
 use Rattle.syntax.specs.Yield.{type_token}
 use Rattle.meaning.specs.Meant.{then}

@@ -1,0 +1,3 @@
+pub mod TextRows
+pub mod DeepRows
+pub mod Laws
