@@ -1,3 +1,0 @@
-pub mod Added
-pub mod AddEntry
-pub mod Laws

@@ -1,2 +1,0 @@
-// Definitions and laws only: every order of a run, counted, lives in specs/.
-#![tactic(auto)]

@@ -1,2 +1,0 @@
-pub mod P
-pub mod Race

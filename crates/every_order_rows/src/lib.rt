@@ -1,2 +1,0 @@
-// Rows only: reports of whole runs by computation, in specs/.
-#![tactic(auto)]

@@ -1,4 +1,0 @@
-pub mod Touching
-pub mod MarkWords
-pub mod Following
-pub mod Laws

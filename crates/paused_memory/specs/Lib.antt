@@ -1,4 +1,0 @@
-pub mod Places
-pub mod InMemory
-pub mod Seats
-pub mod Laws

@@ -1,2 +1,0 @@
--- Laws of opening a paused image (02, 'Pausing a run').
-pub mod OpenedWays

@@ -1,3 +1,0 @@
-pub mod Steps
-pub mod Starting
-pub mod Laws
