@@ -1,5 +1,6 @@
 // One block of an image (01, 'Blocks'): its sums, the tests of which a failed one is a fault, its payload; and the block that holds given bytes.
 #![tactic(auto)]
+
 pub mod put;
 pub mod writing;
 

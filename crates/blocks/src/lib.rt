@@ -2,6 +2,7 @@
 // stream. Both work in memory that the caller lends, and a refusal writes nothing there. A caller says how many blocks are allowed; where it says more
 // than 65,536, the number of indices that two bytes hold, that many are.
 #![tactic(auto)]
+
 mod reading;
 mod writing;
 

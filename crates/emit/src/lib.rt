@@ -1,5 +1,6 @@
 // The second pass of the checker: the commands of an accepted program, written into a list that the caller lends (01, 'Names, types, commands').
 #![tactic(auto)]
+
 mod exprs;
 pub mod steps;
 mod stmts;

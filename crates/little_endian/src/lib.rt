@@ -1,5 +1,6 @@
 // Numbers of two and of four bytes, read and written at a place of a stream or a block (01: "numbers of several bytes are little-endian").
 #![tactic(auto)]
+
 ghost use Rattle.std.specs.Prelude.{◌≡◌, ◌+◌, ◌≤◌, ◌<◌, length};
 ghost use Rattle.std.proofs.lemmas.List.Edits.{sets};
 ghost use Rattle.types.specs.Limits.{nat_end};

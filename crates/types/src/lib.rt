@@ -1,5 +1,6 @@
 // Types and limits (01): every number that 01 sets a bound by as a constant, the bytes of types, and functions of a type, which is named by its byte.
 #![tactic(auto)]
+
 pub mod number;
 
 ghost use Rattle.std.specs.Prelude.{◌≡◌};

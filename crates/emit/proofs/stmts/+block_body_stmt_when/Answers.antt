@@ -150,8 +150,7 @@ pub when-expr-p-requires : goal.when-expr-p-requires
 when-expr-p-requires t c = parts_ready (when_parts _ _ _ _ c.requires.good) c.requires
 
 pub when-block-requires : goal.when-block-requires
-when-block-requires t c =
-    (
+when-block-requires t c = (
   omega (arith, c.decreases),
   parts_next (when_parts _ _ _ _ c.requires.good) c.requires c.expr-p.ensures,
 )

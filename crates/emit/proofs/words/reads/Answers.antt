@@ -37,8 +37,7 @@ loop-left-smaller c = omega (arith, c.loop-left-test.true)
 
 pub loop-left-preserved : goal.loop-left-preserved
 loop-left-preserved c =
-    let h = c.loop-left.invariant in let some = c.loop-left-test.true in
-    (
+    let h = c.loop-left.invariant in let some = c.loop-left-test.true in (
       omega (arith, h.0, some),
       omega (arith, h.1, some),
       c.store.auto.out ∙ h.2,
