@@ -1,6 +1,7 @@
 // The loader: a program image to its accepted program, or to the number of its refusal (01, numbers 1 to 8). The stream, the tables of the parameters and the
 // rows of the step directory stand in memory that the caller lends. Every entry that takes a program begins here.
 #![tactic(auto)]
+
 ghost use Rattle.std.specs.Prelude.{◌≡◌, ◌*◌, ◌≤◌, ◌<◌, length};
 ghost use Rattle.types.specs.Limits.{program_blocks, max_structs, max_params};
 ghost use Rattle.block.specs.Block.{payload_size};
