@@ -1,12 +1,11 @@
 -- Laws of a table stream as numbers: value after value and record after record.
 use Prim.Native.Nat.{ℕ, zero, suc, ◌+◌, ◌*◌, ◌-◌, ◌≤◌, ◌<◌}
 use native.Mathlib.Omega.{arith}
-use Rattle.std.proofs.Common.{add-one, sym, ap, ◌∙◌, length-set}
-use Rattle.std.specs.Prelude.{◌≡◌, refl, List, [], ◌∷◌, ◌++◌, get_or, set}
+use Rattle.std.proofs.Common.{sym, ap, ◌∙◌}
+use Rattle.std.specs.Prelude.{◌≡◌, refl, List, ◌++◌, get_or, set}
 use Rattle.std.proofs.Math.ListN.{length, length-append}
-use Rattle.std.proofs.Math.Seq.{sets, length-sets}
+use Rattle.std.proofs.Math.Seq.{sets}
 use Rattle.types.specs.Limits.{max_params}
-use Rattle.numbers.specs.Scan.{first_mark}
 use Rattle.emit.specs.Laws.WrittenLaws.{sets_append}
 use Rattle.table_words.specs.TableWords.{quad, value_word, values_words, arity_at, row_words, rows_words}
 

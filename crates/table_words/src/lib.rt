@@ -1,5 +1,6 @@
 // A table stream as numbers (docs/FORMAT.md, 'Tables as text'): label, struct and values of each record, as words of `numbers`.
 #![tactic(auto)]
+
 ghost use Rattle.std.specs.Prelude.{◌≡◌, ◌+◌, ◌*◌, ◌≤◌, ◌<◌, length, get_or, set};
 ghost use Rattle.std.proofs.lemmas.List.Edits.{sets};
 ghost use Rattle.types.specs.Limits.{nat_end};
