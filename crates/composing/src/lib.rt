@@ -1,5 +1,6 @@
 // The stream of a text's steps and schedule, written from its end (02 §1): role by role over lent memory, so that no function follows the nesting of the text.
 #![tactic(auto)]
+
 mod bytes;
 mod header;
 mod pouring;
