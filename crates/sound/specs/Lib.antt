@@ -10,4 +10,5 @@ pub mod Startable
 pub mod NeverStuck
 pub mod Waiting
 pub mod After
+pub mod Flags
 pub mod Exhibits

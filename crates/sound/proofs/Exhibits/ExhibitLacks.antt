@@ -27,7 +27,8 @@ use Rattle.sound.specs.Needs.{ValueAmong}
 use Rattle.commands.specs.Accepted.{Accepted}
 use Rattle.sound.specs.NeverStuck.{Demand3}
 use Rattle.sound.specs.After.{onward, act_on, after, after_visited}
-use Rattle.sound.specs.Exhibits.{Lacks, lacks_refutes, no_record, Fails, negating, not_of_int}
+use Rattle.sound.specs.Exhibits.{Lacks, Fails, negating}
+use Rattle.sound.proofs.Exhibits.{lacks_refutes, no_record, not_of_int}
 use Rattle.sound.proofs.Exhibits.ExhibitTurns.{by_stream, came_stopped}
 
 -- a run comes to a number after so many turns

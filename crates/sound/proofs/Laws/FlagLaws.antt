@@ -20,6 +20,7 @@ use Rattle.machine.specs.Performed.{Performed.wrote, Performed.calculated, Perfo
 use Rattle.machine.specs.Performed.{Performed.branched, Performed.no_way}
 use Rattle.machine.proofs.Laws.PerformedLaws.{by_ways}
 use Rattle.run.specs.Holders.{holds_code, flag, flags}
+pub use Rattle.sound.specs.Flags.{Idle, Flagged}
 use Rattle.sound.proofs.Laws.ElemLaws.{none_some, at_set_same, at_append}
 
 flags_set : (is : List Instance) (l : ℕ) (j : Instance) → flags (set is l j) ≡ set (flags is) l (flag j)
@@ -46,18 +47,6 @@ env_code (x ∷ is) zero ξ zero e = (with_env x ξ, refl, cc)
 env_code (x ∷ is) zero ξ (suc l) {i} e = (i, e, refl)
 env_code (x ∷ is) (suc q) ξ zero {i} e = (i, e, refl)
 env_code (x ∷ is) (suc q) ξ (suc l) e = env_code is q ξ l e
-
--- nobody is new, or one who holds no commands
-abbrev pub Idle : List Bool → Type 0
-Idle more = (more ≡ []) ⊎ (more ≡ false ∷ [])
-
--- the instances after a command of l: l is there, and the flags are those before it with l's own put in, and of a new instance
-pub record Flagged (l : ℕ) (fs : List Bool) (is : List Instance) : Type 0 where
-  pub actor : Instance
-  pub there : get_elem? is l ≡ some actor
-  pub more : List Bool
-  pub idle : Idle more
-  pub others : flags is ≡ set fs l (flag actor) ++ more
 
 abbrev Leaves : ℕ → List Bool → Out → Type 0
 Leaves l fs (next m) = Flagged l fs m.instances
