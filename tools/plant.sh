@@ -1,13 +1,13 @@
 #!/usr/bin/env bash
 # Plants faults in a copy of tools/mir2c, one at a time, and has the gate's steps judge what it makes: its own tests, the compiler, and the committed cases answered through
 # audala.h with sanitizers. dist/audala.c is taken to be made anew with the fault in it, so that the comparison with the committed file is no help. Fails if a fault survives
-# or does not apply. Needs the proved libraries in target/ (rt check audala before). Not part of the gate.
+# or does not apply. Needs the proved libraries in crates/*/out (rt lib in crates/audala before). Not part of the gate.
 set -euo pipefail
 top=$(cd "$(dirname "$0")/.." && pwd)
 cd "$top"
 work=$(mktemp -d)
 trap 'rm -rf "$work"' EXIT
-kit=$(dirname "$(dirname "$(rt doc)")")
+kit=$(dirname "$(rt doc)")
 version=$(rt version)
 failed=0
 
@@ -15,7 +15,7 @@ failed=0
 verdict() {
     local by=""
     python3 "$work/mir2c/test.py" >"$work/said" 2>&1 || by="its tests"
-    if ! python3 "$work/mir2c" "$version" include/audala.h audala target/rlib "$kit/on/x86_64/rlib" >"$work/audala.c" 2>"$work/said"; then
+    if ! python3 "$work/mir2c" "$version" include/audala.h audala crates/*/out/rlib "$kit/rlibs" >"$work/audala.c" 2>"$work/said"; then
         by="$by${by:+, }the translator"
     elif ! gcc -std=c99 -Wall -Wextra -Werror -Wno-maybe-uninitialized -pedantic -O1 -fsanitize=address,undefined -fno-sanitize-recover=all -Iinclude tools/cases.c "$work/audala.c" \
         -o "$work/cases" 2>"$work/said"; then

@@ -9,6 +9,7 @@ import sys
 import body
 import calls
 import exports
+import forms
 import idioms
 import values
 from shapes import GROUND, Shapes, Unknown, c_name
@@ -41,12 +42,13 @@ def read(folders):
 
 
 def reached(functions, starts):
-    """The functions that these call, and so on, in the order of their names."""
+    """The functions that these call, and so on, in the order of their names; each is left in the forms that are known here."""
     left, seen = list(starts), set()
     while left:
         name = left.pop()
         if name not in seen:
             seen.add(name)
+            functions[name] = forms.known(functions[name])
             for s in functions[name]["body"]:
                 if isinstance(s, dict) and "Call" in s:
                     callee = s["Call"][0].get("Direct")

@@ -111,6 +111,7 @@ OPERATIONS = {
     "xor": ("Xor", lambda a, b, w: a ^ b, always),
     "shl": ("Shl", lambda a, b, w: a << b, shift),
     "shr": ({"Shr": "Unsigned"}, lambda a, b, w: a >> b, shift),
+    "wrap": ("WrapAdd", lambda a, b, w: a + b, always),
 }
 TESTS = {
     "eq": ("Eq", lambda a, b, w: a == b),
@@ -380,6 +381,23 @@ class Refusals(unittest.TestCase):
         self.changed("size of an element", local(slice_of(named("t::Odd")), odd))
         self.changed("size of an element", local({"Array": [named("t::Odd"), {"Lit": 3}]}, odd))
         self.changed("two shapes", lambda f: f["types"].append({**VALUE, "shape": {"Fields": [int_(8)]}}))
+
+    def test_today(self):
+        """What today's MIR adds to a call, a type and a function is taken off, or refused where it says something."""
+        known, place = mir2c.forms.known, {"local": 1, "steps": []}
+        given = {"types": [], "dicts": []}
+        f = function([], [{"Ref": ["Erased", "Imm", {"Array": [int_(8), {"Lit": 3}]}]}], {"Call": [{"Fn": ["t::g", given]}, [], place]})
+        f["locals"][0]["ty"] = {"Named": [{"name": "t::Value", "lifetimes": []}, []]}
+        self.assertEqual((known(f)["body"][1]["Call"][0], known(f)["locals"][0]["ty"]), ({"Direct": "t::g"}, named("t::Value")))
+        for wrong in ({"types": [U64], "dicts": []}, {"types": [], "dicts": [0]}):
+            f["body"][1] = {"Call": [{"Fn": ["t::g", wrong]}, [], place]}
+            self.assertRaisesRegex(Unknown, "types or bounds", known, f)
+        f["body"][1] = {"LendStatic": [place, {"Array": [int_(8), {"Lit": 3}]}, {"Ints": {"width": 8, "values": [7, 8, 9]}}]}
+        lent = known(f)
+        self.assertEqual(lent["body"][1:4], [put(2, {"Aggregate": [const(b, 8) for b in (7, 8, 9)]}), "Seq", put(1, {"AddrOf": {"local": 2, "steps": []}})])
+        self.assertEqual(lent["locals"][2]["ty"], {"Array": [int_(8), {"Lit": 3}]})
+        f["body"][1] = {"LendStatic": [place, {"Array": [BOOL, {"Lit": 3}]}, {"Bools": []}]}
+        self.assertRaisesRegex(Unknown, "a table of Bools", known, f)
 
     def test_headers(self):
         f, lent = good(), function([slice_of(U64)], [U64], put(2, {"Opd": copy_of(1, {"Field": 1})}), answer(copy_of(2)))
