@@ -16,8 +16,8 @@ use Rattle.directory.specs.Rows.{row_places, rows_from}
 use Rattle.directory.specs.Held.{Holds}
 use Rattle.directory.proofs.HeldLaws.{holds_program, holds_step, holds_struct, holds_words}
 use Rattle.directory.proofs.DirectoryLaws.{RowInRange, all_both, directory_ranged, directory_inside, directory_size}
-use Rattle.step_lines.specs.Lines.{step_lines, steps_lines, structs_lines, program_lines}
-use Rattle.step_lines.specs.RowLines.{line_most, word_lines, row_lines, rows_lines, Listable}
+use Rattle.step_lines.specs.Lines.{steps_lines, structs_lines, program_lines}
+use Rattle.step_lines.specs.RowLines.{line_most, row_lines, rows_lines, Listable}
 use Rattle.step_lines.specs.RowLinesLaws.{flat_append}
 use Rattle.step_lines.specs.ListedLaws.{step_text}
 

@@ -1,5 +1,5 @@
 -- Lines that are written one behind the other: those of a row by its commands, and those of rows.
-use Rattle.std.specs.Prelude.{ℕ, suc, ◌+◌, ◌-◌, ◌*◌, ◌<◌, ◌≤◌, ◌≡◌, refl, List, [], ◌∷◌, ◌++◌, length, get_or, take, drop}
+use Rattle.std.specs.Prelude.{ℕ, suc, ◌+◌, ◌-◌, ◌<◌, ◌≡◌, refl, List, [], ◌∷◌, ◌++◌, length, get_or, take, drop}
 use Rattle.std.proofs.Common.{arith, zero-add, add-suc, suc-add, add-zero, add-one, sym, ap, ◌∙◌, append_assoc, append-nil, length-drop, take-suc, get_or-drop, length-take-le}
 use Rattle.program.specs.Encoding.{flat}
 use Rattle.commands.specs.Bounds.{total}

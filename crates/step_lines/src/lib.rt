@@ -1,5 +1,6 @@
 // The lines of a program's steps: the directory gives each step's struct, name and place, the list its commands (01, 'Bench rows').
 #![tactic(auto)]
+
 ghost use Rattle.std.specs.Prelude.{◌≡◌, ◌+◌, ◌*◌, ◌<◌, ◌≤◌, length};
 ghost use Rattle.directory.specs.Rows.{rows_from};
 ghost use Rattle.text.specs.Listing.{Placed};
