@@ -1,5 +1,6 @@
 // The checker: a program image to a number, counts and depth, and its commands to a lent list (01, numbers 1 to 8 and 13).
 #![tactic(auto)]
+
 ghost use Rattle.std.specs.Prelude.{◌≡◌};
 ghost use Rattle.verdict.specs.Verdict.{refusal, check_verdict, check_list};
 ghost use Rattle.checker.specs.Answer.{answer, approved};
