@@ -9,7 +9,7 @@ use borrow.Author.Tests.{lt-ltb, le-ltb}
 use Rattle.types.specs.Limits.{max_instances}
 use Rattle.layout.specs.Layout.{head_size, row_size, stacked, label_cell, going, new_head}
 use Rattle.memory.specs.Act.{full, made, do_cons}
-use Rattle.memory.specs.Laws.RowLaws.{sets_other}
+use Rattle.memory.proofs.Laws.RowLaws.{sets_other}
 use Rattle.execute_stack.specs.declared.Actor.{Actor}
 use Rattle.execute_stack.specs.declared.Acted.TheVariants.{Made, Refused}
 use Rattle.execute_stack.specs.Answers.{seen, Acting, answering, DoesWith}
