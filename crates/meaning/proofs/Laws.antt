@@ -1,4 +1,5 @@
 -- Laws about what a derivation means: the function is exact, and what a stream holds of a program is decided (02 §1).
+pub mod HoldsDecideLaws
 pub mod NestingLaws
 pub mod MeantComplete
 pub mod MeantLaws

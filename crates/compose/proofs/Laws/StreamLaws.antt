@@ -17,7 +17,8 @@ use Rattle.syntax.specs.Syntax.{Defs, Sched, Program as Derivation, Program.prog
 use Rattle.syntax.specs.Bracketing.{FitsProgram}
 use Rattle.meaning.specs.Scope.{structs_of}
 use Rattle.meaning.specs.StepNames.{step_names}
-use Rattle.meaning.specs.HoldsDecide.{holds, decides_holds}
+use Rattle.meaning.specs.HoldsDecide.{holds}
+use Rattle.meaning.proofs.Laws.HoldsDecideLaws.{decides_holds}
 use Rattle.meaning.specs.Holds.{max_stream, Holds}
 use Rattle.meaning.specs.Meant.{then, provided, meant}
 use Rattle.meaning.specs.Means.{Means}

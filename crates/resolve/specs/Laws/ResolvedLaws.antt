@@ -16,7 +16,8 @@ use Rattle.syntax.specs.Syntax.{Id, Par, Struct, Defs, Sched, Program.program}
 use Rattle.meaning.specs.Scope.{par_id, par_type, struct_id, pars_of, structs_of}
 use Rattle.meaning.specs.StepNames.{once, step_names}
 use Rattle.meaning.specs.Finding.{distinct}
-use Rattle.meaning.specs.HoldsDecide.{all, holds, decides_holds}
+use Rattle.meaning.specs.HoldsDecide.{all, holds}
+use Rattle.meaning.proofs.Laws.HoldsDecideLaws.{decides_holds}
 use Rattle.meaning.specs.Holds.{Holds}
 use Rattle.meaning.specs.Meant.{then, provided, each, pars_meaning, meant}
 use Rattle.meaning.specs.Means.{Means}

@@ -37,7 +37,8 @@ use Rattle.meaning.proofs.Laws.MeantComplete.{means_meant}
 use Rattle.meaning.specs.Holds.{Holds}
 use Rattle.meaning.specs.Nesting.{Shallow}
 use Rattle.meaning.proofs.Laws.NestingLaws.{counts_split}
-use Rattle.meaning.specs.HoldsDecide.{holds, decides_holds}
+use Rattle.meaning.specs.HoldsDecide.{holds}
+use Rattle.meaning.proofs.Laws.HoldsDecideLaws.{decides_holds}
 use Rattle.source.specs.Source.{max_text, Derived, Reading, NoTokens, NoDerivation, NoProgram, ShortOutput, text_order}
 use Rattle.source.specs.Source.{number_of, blocks_of, output_of}
 use Rattle.source.specs.TextReader.{of_program, of_derivation, of_tokens, outcome, text_number}
