@@ -1,10 +1,9 @@
 -- Numbers that are accepted are those that their stream has as a table: what was read, written again, is what was read.
 use Rattle.std.specs.Prelude.{ℕ, suc, ◌+◌, refl, Bool, true, false, List, [], ◌∷◌, eqb, ltb, length}
-use Rattle.std.proofs.Common.{arith, ap, ◌∙◌, eqb-true}
+use Rattle.std.proofs.Common.{arith, eqb-true}
 use Rattle.std.proofs.Math.Path.{◌≡◌}
 use Rattle.table_words.specs.TableWords.{table_words}
 use Rattle.table_stream.specs.TableStream.{agreed_from, judged, made, stream_of}
-use Rattle.table_stream.specs.declared.Made.{Made}
 use Rattle.table_stream.specs.declared.Made.TheVariants.{Stream, NoRecord, Short}
 
 -- lists of one length that agree up to it are equal

@@ -1,6 +1,6 @@
 -- Numbers as a table stream (docs/FORMAT.md, 'Tables as text'): each line is a record. The stream is made of structs and values; the numbers are accepted
 -- where they are those that the stream has as a table, label by label and value by value.
-use Rattle.std.specs.Prelude.{ℕ, ◌+◌, ◌-◌, ◌/◌, ◌%◌, Bool, true, false, List, [], ◌∷◌, ◌++◌, eqb, ltb, leb, length, get_or}
+use Rattle.std.specs.Prelude.{ℕ, ◌+◌, ◌-◌, ◌/◌, ◌%◌, Bool, true, false, List, [], ◌∷◌, ◌++◌, eqb, ltb, leb, length}
 use Rattle.types.specs.Limits.{nat_end}
 use Rattle.program.specs.Encoding.{enc_word}
 use Rattle.numbers.specs.Scan.{minus_mark, first_mark}

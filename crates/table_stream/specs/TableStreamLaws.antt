@@ -1,15 +1,15 @@
 -- Laws of numbers as a table stream: word after word.
-use Rattle.std.specs.Prelude.{ℕ, suc, ◌+◌, ◌*◌, ◌-◌, ◌/◌, ◌%◌, ◌≤◌, ◌<◌, ◌≡◌, refl, Bool, true, List, [], ◌∷◌, ◌++◌, get_or, drop, replicate}
+use Rattle.std.specs.Prelude.{ℕ, suc, ◌+◌, ◌*◌, ◌/◌, ◌%◌, ◌≤◌, ◌<◌, ◌≡◌, refl, Bool, List, ◌∷◌, ◌++◌, get_or, drop, replicate}
 use native.Mathlib.Omega.{arith}
 use Rattle.std.proofs.Common.{add-one, sym, ap, ◌∙◌, drop-cons}
 use Rattle.std.proofs.Math.Bool.{false}
 use Rattle.std.proofs.Math.ListN.{length, set, length-append, drop_of_length-le}
-use Rattle.std.proofs.Math.Seq.{sets, length-sets}
-use borrow.Author.Tests.{lt-ltb, le-ltb, eq-eqb, ne_eqb}
+use Rattle.std.proofs.Math.Seq.{sets}
+use borrow.Author.Tests.{eq-eqb, ne_eqb}
 use Rattle.little_endian.specs.Numbers.{bytes_of}
 use Rattle.emit.specs.Laws.WrittenLaws.{sets_append, set_sets}
 use Rattle.program.specs.Encoding.{enc_word}
-use Rattle.table_stream.specs.TableStream.{value_number, word_bytes, begins, item_bytes, one_line, records_bytes, line_count, stream_of, agreed_from}
+use Rattle.table_stream.specs.TableStream.{begins, item_bytes, one_line, records_bytes, line_count, stream_of, agreed_from}
 
 -- i words were taken: those left lead to the records and the lines of all
 pub record Taken (ws out₀ out : List ℕ) (at : ℕ) (struct : Bool) (lines i : ℕ) : Type 0 where

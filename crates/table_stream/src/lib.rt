@@ -1,5 +1,6 @@
 // Numbers as a table stream (docs/FORMAT.md, 'Tables as text'): each line is a record, with its label, its struct and its values, as words of `numbers`.
 #![tactic(auto)]
+
 ghost use Rattle.std.specs.Prelude.{◌≡◌, ◌++◌, ◌+◌, ◌*◌, ◌≤◌, ◌<◌, length, get_or, set, take};
 ghost use Rattle.std.proofs.lemmas.List.Edits.{sets};
 ghost use Rattle.program.specs.Encoding.{enc_word};
