@@ -1,5 +1,6 @@
 // The commands of one step, as that part of the lent list (01, 'Names, types, commands').
 #![tactic(auto)]
+
 ghost use Rattle.std.specs.Prelude.{◌≡◌};
 ghost use Rattle.verdict.specs.Verdict.{checked};
 ghost use Rattle.step_part.specs.StepPart.{nowhere, spot_at, spot_by, step_place, step_part};
