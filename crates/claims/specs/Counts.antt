@@ -20,10 +20,10 @@ use Rattle.counts.specs.Counts.{Counts}
 use Rattle.counts.specs.Tally.{Kind.ends, Kind.stops, tally}
 use Rattle.counts.specs.CountEntry.{most_counted, count_begins, counted, count, count_list}
 use Rattle.counts.specs.CountInput.{count_order, Countable}
-use Rattle.counts.specs.Laws.NumberLaws.{number_one}
-use Rattle.counts.specs.Laws.TallyLaws.{tally_counts}
-use Rattle.counts.specs.Laws.FitLaws.{counts_fit as tally_fits}
-use Rattle.counts.specs.Laws.CountInputLaws.{count_number, count_none, count_untouched, begun_count, begun_exact, begun_fits}
+use Rattle.counts.proofs.Laws.NumberLaws.{number_one}
+use Rattle.counts.proofs.Laws.TallyLaws.{tally_counts}
+use Rattle.counts.proofs.Laws.FitLaws.{counts_fit as tally_fits}
+use Rattle.counts.proofs.Laws.CountInputLaws.{count_number, count_none, count_untouched, begun_count, begun_exact, begun_fits}
 
 -- a property of sequences has one number
 pub one_number : {P : List ℕ → Type 0} {m n : ℕ} → Number P m → Number P n → m ≡ n

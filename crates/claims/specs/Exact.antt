@@ -77,8 +77,8 @@ use Rattle.orders.specs.OrderFree.{OrderFree}
 use Rattle.orders.specs.Meeting.{Meeting}
 use Rattle.orders.specs.ZeroTurns.{Zeros, Answer.apart, Answer.together, Answer.unfinished}
 use Rattle.orders.specs.StepAnswer.{alone, step_state, step_machine, constructing, StepAnswer.followed, step_answer}
-use Rattle.orders.specs.Laws.StepAnswerLaws.{step_apart_exact, step_free, step_meets, step_ends}
-use Rattle.orders.specs.Laws.OrderFreeLaws.{free_after}
+use Rattle.orders.proofs.Laws.StepAnswerLaws.{step_apart_exact, step_free, step_meets, step_ends}
+use Rattle.orders.proofs.Laws.OrderFreeLaws.{free_after}
 use Rattle.claims.specs.AnyRun.{run_jammed_exactly}
 use Rattle.step_part.specs.StepPart.{step_place, step_part}
 use Rattle.step_part.specs.StepPartLaws.{place_fits, place_part}

@@ -14,9 +14,9 @@ use Rattle.layout.specs.Codes.{end_code}
 use Rattle.memory.specs.Act.{beneath, next_word, act}
 use Rattle.memory.specs.Move.{move as move_on}
 use Rattle.memory.specs.Plan.{At}
-use Rattle.memory.specs.Laws.PlanUnique.{at_unique}
+use Rattle.memory.proofs.Laws.PlanUnique.{at_unique}
 use Rattle.memory.specs.Stands.{Stands, bits}
-use Rattle.memory.specs.Laws.EntriesLaws.{entry_times, bits_times}
+use Rattle.memory.proofs.Laws.EntriesLaws.{entry_times, bits_times}
 use Rattle.interpreter.specs.Ready.{Ready}
 use Rattle.interpreter.specs.Laws.TurnLaws.{held_count}
 use Rattle.interpreter.specs.Running.{cleared, Moving, Running, Ended}

@@ -20,8 +20,8 @@ use Rattle.orders.specs.Orders.{Ordered, Completes, Turns}
 use Rattle.orders.specs.Touches.{Apart}
 use Rattle.orders.specs.Constructing.{ConstructsNothing}
 use Rattle.orders.specs.OrderFree.{params_in, entries_in, OrderFree}
-use Rattle.orders.specs.Laws.StoodFree.{turns_ordered}
-use Rattle.orders.specs.Laws.OrderFreeLaws.{orders_never_stop, free_in_run, run_ordered_turns, ends_alike, bytes_run}
+use Rattle.orders.proofs.Laws.StoodFree.{turns_ordered}
+use Rattle.orders.proofs.Laws.OrderFreeLaws.{orders_never_stop, free_in_run, run_ordered_turns, ends_alike, bytes_run}
 
 -- wherever a run of an accepted program on a right table comes to a step item: the step that it starts there is free of order if it constructs
 -- nothing and one order of it touches apart

@@ -20,7 +20,7 @@ use Rattle.emit.specs.Laws.ProgramLaws.{whole_program}
 use Rattle.emit.specs.Written.{structs_at}
 use Rattle.machine.specs.Published.{Sched, of_items}
 use Rattle.memory.specs.Plan.{laid, laid_out, Ranged, Body, At, At.at_end, At.at_start, At.at_fix, At.at_round}
-use Rattle.memory.specs.Laws.PlanLaws.{at_within, laid_whole, schedule_ranged}
+use Rattle.memory.proofs.Laws.PlanLaws.{at_within, laid_whole, schedule_ranged}
 use Rattle.compile.specs.Codes.{schedule_codes, any_structs, schedule_at}
 use Rattle.compile.specs.CodesLaws.{schedule_few}
 use Rattle.compile.specs.Laid.{Behind, LaidProgram}

@@ -18,7 +18,7 @@ use Rattle.run.specs.Turns.{labels_from}
 use Rattle.counts.specs.Numbers.{sum}
 use Rattle.counts.specs.Tally.{Kind, Kind.ends, Kind.stops, tally}
 use Rattle.counts.specs.CountEntry.{most_counted}
-use Rattle.counts.specs.Laws.TallySteps.{from_command}
+use Rattle.counts.proofs.Laws.TallySteps.{from_command}
 use Rattle.counting.specs.declared.count.Asked.{Asked}
 use Rattle.counting.specs.declared.count.Tally.{Tally}
 

@@ -4,4 +4,3 @@ pub mod Tally
 pub mod CountEntry
 pub mod CountInput
 pub mod Rows
-pub mod Laws

@@ -5,7 +5,7 @@ use Rattle.std.proofs.Common.{ap, ◌∙◌}
 use borrow.Author.Tests.{lt-ltb, le-ltb}
 use Rattle.layout.specs.Layout.{head, struct_of, variable, operand, going}
 use Rattle.memory.specs.Act.{do_rd, do_wr, written, written_to}
-use Rattle.memory.specs.Laws.EntriesLaws.{times_one}
+use Rattle.memory.proofs.Laws.EntriesLaws.{times_one}
 use Rattle.execute_stack.specs.declared.Actor.{Actor}
 use Rattle.execute_stack.specs.declared.Acted.{Acted}
 use Rattle.execute_stack.specs.declared.Acted.TheVariants.{Kept, Wrote}

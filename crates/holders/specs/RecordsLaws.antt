@@ -17,7 +17,7 @@ use Rattle.layout.specs.Layout.{holds}
 use Rattle.run.specs.Turns.{labels_from, round_from, chosen}
 use Rattle.memory.specs.Choose.{holding, flags, picked}
 use Rattle.run.proofs.Laws.RoundLaws.{kept}
-use Rattle.memory.specs.Laws.ChooseStands.{holding_round, flags_length, flags_at}
+use Rattle.memory.proofs.Laws.ChooseStands.{holding_round, flags_length, flags_at}
 use Rattle.holders.specs.declared.Record.{Record}
 use Rattle.holders.specs.Records.{idle, wrapped, search, Recorded, holder_in}
 use Rattle.holders.specs.RecordsWays.{wrapped_here, wrapped_past, search_here, search_past}

@@ -5,4 +5,3 @@ pub mod Choose
 pub mod Stands
 pub mod Frame
 pub mod Fit
-pub mod Laws

@@ -11,6 +11,3 @@ pub mod Meeting
 pub mod Stopping
 pub mod ApartEntry
 pub mod StepInput
-pub mod Exhibits
-pub mod AnswerRows
-pub mod Laws

@@ -19,8 +19,8 @@ use Rattle.run.specs.Entry.{report, report_of, output_of, last_stream}
 use Rattle.sound.proofs.Laws.AcceptedLaws.{accepted_firm}
 use Rattle.layout.specs.State.{State, state_of}
 use Rattle.memory.specs.Plan.{At}
-use Rattle.memory.specs.Laws.ChooseStands.{holding_few}
-use Rattle.memory.specs.Laws.BoundedLaws.{accepted_bounded}
+use Rattle.memory.proofs.Laws.ChooseStands.{holding_few}
+use Rattle.memory.proofs.Laws.BoundedLaws.{accepted_bounded}
 use Rattle.load.specs.Load.{Admitted}
 use Rattle.compile.specs.Spans.{span_places}
 use Rattle.compile.specs.Prepared.{Preparable, Prepared, PreparedProgram}

@@ -9,7 +9,7 @@ use Rattle.types.specs.Limits.{step_names}
 use Rattle.layout.specs.Layout.{head, struct_of, begun}
 use Rattle.memory.specs.Plan.{span_of, from, to}
 use Rattle.memory.specs.Move.{means, begin_one, begin_all}
-use Rattle.memory.specs.Laws.BeginLaws.{begins, begun_struct, one_begins, one_stays, one_length, one_others}
+use Rattle.memory.proofs.Laws.BeginLaws.{begins, begun_struct, one_begins, one_stays, one_length, one_others}
 use Rattle.scheduler.specs.Ready.{Row, Rows}
 
 -- One instance -------------------------------------------------------------------

@@ -10,7 +10,7 @@ use Rattle.layout.specs.State.{state_of, set_place, set_holding, placed}
 use Rattle.layout.specs.Codes.{fix_code, round_code}
 use Rattle.memory.specs.Choose.{holding}
 use Rattle.memory.specs.Move.{begin_all, do_start, do_fix, do_round, move_by, move}
-use Rattle.memory.specs.Laws.MoveLaws.{move_start}
+use Rattle.memory.proofs.Laws.MoveLaws.{move_start}
 use Rattle.scheduler.specs.Makes.{Makes, Moves}
 
 -- Entries of the open Fixes ---------------------------------------------------------

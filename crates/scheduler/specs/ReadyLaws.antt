@@ -9,7 +9,7 @@ use Rattle.machine.specs.Machine.{Instance, Machine}
 use Rattle.layout.specs.State.{State}
 use Rattle.layout.specs.Codes.{fix_code, round_code}
 use Rattle.memory.specs.Plan.{At, At.at_end, At.at_start, At.at_fix, At.at_round}
-use Rattle.memory.specs.Laws.PlanLaws.{code_below, at_within}
+use Rattle.memory.proofs.Laws.PlanLaws.{code_below, at_within}
 use Rattle.memory.specs.Stands.{bits, Stands}
 use Rattle.scheduler.specs.Ready.{spans_size, Rows, Movable}
 

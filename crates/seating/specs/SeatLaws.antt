@@ -21,7 +21,7 @@ use Rattle.layout.specs.Layout.{head_size, row_size}
 use Rattle.layout.specs.declared.Numbers.{Numbers}
 use Rattle.layout.specs.State.{fresh}
 use Rattle.memory.specs.Plan.{At}
-use Rattle.memory.specs.Laws.ChooseStands.{holding_same}
+use Rattle.memory.proofs.Laws.ChooseStands.{holding_same}
 use Rattle.load.specs.Load.{Admitted}
 use Rattle.table_read.specs.declared.TableRead.TheVariants.{Instances, Refused}
 use Rattle.table_read.specs.Params.{lists_of, Tables}

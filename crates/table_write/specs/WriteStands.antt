@@ -27,7 +27,7 @@ use Rattle.sound.proofs.Laws.ElemLaws.{at_below, at_drop}
 use Rattle.sound.proofs.Laws.EnvLaws.{param_at}
 use Rattle.layout.specs.Layout.{row_size, operand, variable}
 use Rattle.layout.specs.State.{State, of_cell}
-use Rattle.memory.specs.Laws.CellLaws.{operand_part, code_byte}
+use Rattle.memory.proofs.Laws.CellLaws.{operand_part, code_byte}
 use Rattle.memory.specs.Stands.{Shows, Stands}
 use Rattle.table_read.specs.Refer.{struct_in}
 use Rattle.table_read.specs.Laws.LaidLaws.{at_place}

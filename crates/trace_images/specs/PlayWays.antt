@@ -13,7 +13,7 @@ use Rattle.run.specs.Run.{Outcome.stopped, run}
 use Rattle.run.specs.Steps.{Steps.here}
 use Rattle.layout.specs.Codes.{end_code}
 use Rattle.layout.specs.State.{state_of, bit}
-use Rattle.memory.specs.Laws.PlanLaws.{at_end_done}
+use Rattle.memory.proofs.Laws.PlanLaws.{at_end_done}
 use Rattle.interpreter.specs.Ready.{Ready}
 use Rattle.interpreter.specs.Running.{Begun, Standing}
 use Rattle.interpreter.specs.Laws.RunWays.{begun_standing}

@@ -7,7 +7,7 @@ use Rattle.types.specs.Limits.{step_names, fix_levels}
 use Rattle.run.specs.Steps.{Steps.here}
 use Rattle.layout.specs.Codes.{end_code}
 use Rattle.layout.specs.State.{State}
-use Rattle.memory.specs.Laws.PlanLaws.{at_within}
+use Rattle.memory.proofs.Laws.PlanLaws.{at_within}
 use Rattle.memory.specs.Move.{move}
 use Rattle.interpreter.specs.Moving.{zeros, moves_left}
 use Rattle.interpreter.specs.Laws.MovingLaws.{left}

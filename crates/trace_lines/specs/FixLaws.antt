@@ -14,7 +14,7 @@ use Rattle.layout.specs.declared.Numbers.{Numbers}
 use Rattle.layout.specs.State.{State, state_of, of_head}
 use Rattle.memory.specs.Act.{top, next_word, do_push, do_this, do_not, do_if, answered, do_op, do_rd, written, written_to, do_wr, do_cons, made}
 use Rattle.memory.specs.Act.{perform, act}
-use Rattle.memory.specs.Laws.Acts.{turned_only}
+use Rattle.memory.proofs.Laws.Acts.{turned_only}
 use Rattle.memory.specs.Move.{do_fix, do_round, do_start, move_by, move}
 use Rattle.layout.specs.Codes.{fix_code, round_code}
 use Rattle.scheduler.specs.Ready.{Movable}

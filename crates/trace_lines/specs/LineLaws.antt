@@ -35,10 +35,10 @@ use Rattle.layout.specs.State.{State, of_head}
 use Rattle.memory.specs.Act.{next_word}
 use Rattle.memory.specs.Plan.{from, to, Spans, At}
 use Rattle.memory.specs.Stands.{Shows, Stack, Held, Stands, note_words, bits}
-use Rattle.memory.specs.Laws.CellLaws.{shown_type, shown_operand}
-use Rattle.memory.specs.Laws.HeldLaws.{holds_word}
-use Rattle.memory.specs.Laws.StandsLaws.{has_row}
-use Rattle.memory.specs.Laws.ActorLaws.{good_slim, actor_sized}
+use Rattle.memory.proofs.Laws.CellLaws.{shown_type, shown_operand}
+use Rattle.memory.proofs.Laws.HeldLaws.{holds_word}
+use Rattle.memory.proofs.Laws.StandsLaws.{has_row}
+use Rattle.memory.proofs.Laws.ActorLaws.{good_slim, actor_sized}
 use Rattle.interpreter.specs.Ready.{Ready}
 use Rattle.text.specs.Listing.{decimal, value_text, text}
 use Rattle.text.specs.CommandText.{shown, Listed}

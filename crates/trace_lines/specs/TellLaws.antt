@@ -20,16 +20,16 @@ use Rattle.layout.specs.Layout.{head, head_size, struct_of}
 use Rattle.layout.specs.declared.Numbers.{Numbers}
 use Rattle.layout.specs.State.{State, state_of, of_head}
 use Rattle.memory.specs.Act.{next_word, act}
-use Rattle.memory.specs.Laws.Acts.{acts}
+use Rattle.memory.proofs.Laws.Acts.{acts}
 use Rattle.memory.specs.Choose.{picked}
-use Rattle.memory.specs.Laws.ChooseStands.{picks}
+use Rattle.memory.proofs.Laws.ChooseStands.{picks}
 use Rattle.memory.specs.Fit.{Fit}
 use Rattle.memory.specs.Frame.{After}
 use Rattle.memory.specs.Move.{move as move_on}
-use Rattle.memory.specs.Laws.MoveStands.{Follows, moves}
+use Rattle.memory.proofs.Laws.MoveStands.{Follows, moves}
 use Rattle.layout.specs.Codes.{fix_code, end_code, round_code}
 use Rattle.memory.specs.Plan.{At}
-use Rattle.memory.specs.Laws.PlanLaws.{past_start, past_fix, past_round, at_end_done}
+use Rattle.memory.proofs.Laws.PlanLaws.{past_start, past_fix, past_round, at_end_done}
 use Rattle.interpreter.specs.Ready.{Ready}
 use Rattle.interpreter.specs.Running.{Turned, Turned.turned, Turned.failed}
 use Rattle.interpreter.specs.Laws.CountLaws.{holders_behind}

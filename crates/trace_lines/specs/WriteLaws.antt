@@ -24,11 +24,11 @@ use Rattle.layout.specs.State.{State, of_head, of_cell}
 use Rattle.memory.specs.Act.{height, top, beneath, after, next_word, stored, written, written_to, do_wr, perform, act}
 use Rattle.memory.specs.Plan.{At}
 use Rattle.memory.specs.Frame.{kind_of, operand_of}
-use Rattle.memory.specs.Laws.Acts.{word_says, turned_only}
-use Rattle.memory.specs.Laws.RowLaws.{going_other}
-use Rattle.memory.specs.Laws.HeldLaws.{holds_word, holds_label}
-use Rattle.memory.specs.Laws.StandsLaws.{has_row}
-use Rattle.memory.specs.Laws.ActorLaws.{counts_length, actor_needs, actor_sized}
+use Rattle.memory.proofs.Laws.Acts.{word_says, turned_only}
+use Rattle.memory.proofs.Laws.RowLaws.{going_other}
+use Rattle.memory.proofs.Laws.HeldLaws.{holds_word, holds_label}
+use Rattle.memory.proofs.Laws.StandsLaws.{has_row}
+use Rattle.memory.proofs.Laws.ActorLaws.{counts_length, actor_needs, actor_sized}
 use Rattle.interpreter.specs.Ready.{Ready}
 use Rattle.trace.specs.LineText.{change_text, param_text, target_text, flat_writes, written_text}
 use Rattle.trace_lines.specs.declared.writes.Write.{Write}

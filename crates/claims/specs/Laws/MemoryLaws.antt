@@ -16,7 +16,7 @@ use Rattle.memory.specs.Act.{top, beneath, do_wr, written, written_to, perform, 
 use Rattle.memory.specs.Choose.{fewer, picked}
 use Rattle.memory.specs.Move.{move as move_on}
 use Rattle.memory.specs.Plan.{At}
-use Rattle.memory.specs.Laws.Acts.{turned_only}
+use Rattle.memory.proofs.Laws.Acts.{turned_only}
 use Rattle.memory.specs.Stands.{Stands}
 use Rattle.interpreter.specs.Ready.{Ready}
 use Rattle.interpreter.specs.Laws.TurnLaws.{held_count, turned_by, moves_to}

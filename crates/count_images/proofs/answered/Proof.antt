@@ -13,7 +13,7 @@ use Rattle.commands.specs.Decide.NamesDecide.{stepped}
 use Rattle.commands.specs.Names.{Had}
 use Rattle.table.specs.Table.{Record}
 use Rattle.orders.specs.StepAnswer.{alone}
-use Rattle.orders.specs.Laws.StepAnswerLaws.{stepped_had}
+use Rattle.orders.proofs.Laws.StepAnswerLaws.{stepped_had}
 use Rattle.counts.specs.CountEntry.{most_counted, type_at, started_commands, count_machine}
 use Rattle.count_images.specs.Asking.{Compiled}
 use Rattle.count_images.specs.Answers.{Subject}

@@ -18,8 +18,8 @@ use Rattle.verdict.specs.Verdict.{listed}
 use Rattle.table.specs.Table.{Record}
 use Rattle.run.specs.Entry.{Begun, begun, not_begun, images, run_list_by}
 use Rattle.orders.specs.StepAnswer.{alone}
-use Rattle.orders.specs.Laws.AloneLaws.{alone_accepted}
-use Rattle.orders.specs.Laws.StepAnswerLaws.{stepped_had}
+use Rattle.orders.proofs.Laws.AloneLaws.{alone_accepted}
+use Rattle.orders.proofs.Laws.StepAnswerLaws.{stepped_had}
 use Rattle.counts.specs.Tally.{Kind, Kind.ends, Kind.stops, tally}
 use Rattle.counts.specs.CountEntry.{most_counted, type_at, is_bool, started_commands, of_question, with_question, count_begins, counted, count_machine, count_by}
 use Rattle.counts.specs.CountEntry.{count, count_list}

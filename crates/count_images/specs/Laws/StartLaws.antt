@@ -31,8 +31,8 @@ use Rattle.run.specs.Begin.{first_instances, begin}
 use Rattle.sound.specs.Invariant.{Open, Open.open_done, Open.open_start}
 use Rattle.sound.proofs.Laws.ElemLaws.{at_map}
 use Rattle.orders.specs.StepAnswer.{alone, step_machine}
-use Rattle.orders.specs.Laws.AloneLaws.{alone_accepted}
-use Rattle.orders.specs.Laws.StepAnswerLaws.{begin_moves, alone_firm, step_good}
+use Rattle.orders.proofs.Laws.AloneLaws.{alone_accepted}
+use Rattle.orders.proofs.Laws.StepAnswerLaws.{begin_moves, alone_firm, step_good}
 use Rattle.layout.specs.Layout.{head, head_size, struct_of}
 use Rattle.layout.specs.Codes.{end_code}
 use Rattle.layout.specs.State.{State, state_of, set_holding}
@@ -41,9 +41,9 @@ use Rattle.memory.specs.Frame.{Bounded}
 use Rattle.memory.specs.Move.{begin_all, do_start, move as move_on}
 use Rattle.memory.specs.Plan.{At, At.at_end, At.at_start, Located}
 use Rattle.memory.specs.Stands.{Stands}
-use Rattle.memory.specs.Laws.BoundedLaws.{accepted_bounded}
-use Rattle.memory.specs.Laws.MoveLaws.{move_start}
-use Rattle.memory.specs.Laws.MoveStands.{Follows, moves}
+use Rattle.memory.proofs.Laws.BoundedLaws.{accepted_bounded}
+use Rattle.memory.proofs.Laws.MoveLaws.{move_start}
+use Rattle.memory.proofs.Laws.MoveStands.{Follows, moves}
 use Rattle.scheduler.specs.Ready.{Rows}
 use Rattle.compile.specs.Prepared.{Prepared}
 use Rattle.compile.specs.Spans.{span_places}
@@ -54,7 +54,7 @@ use Rattle.table_read.specs.Laws.LaidLaws.{at_place}
 use Rattle.table_read.specs.Laws.BeginStands.{few_all}
 use Rattle.seating.specs.SeatLaws.{admitted_counts, admitted_tables}
 use Rattle.counts.specs.CountEntry.{most_counted, type_in, type_at, started_commands, count_machine}
-use Rattle.counts.specs.Laws.CountLaws.{started_codes}
+use Rattle.counts.proofs.Laws.CountLaws.{started_codes}
 use Rattle.counting.specs.declared.count.Asked.{Asked}
 use Rattle.counting.specs.Counting.{commands_in, AnyPlace, Truth, Stood, Countable}
 use Rattle.counting.specs.Laws.CommandLaws.{commands_same}

@@ -15,7 +15,7 @@ use Rattle.layout.specs.Layout.{head_size, struct_of, height_of, next_of, row_si
 use Rattle.layout.specs.State.{State, with_heads, with_cells, times, unstable, refused, with_count, with_holding, with_from, of_head, of_cell, state_of}
 use Rattle.memory.specs.Act.{full, gone, pushed, height, after, top, beneath, do_push, do_this, do_not, do_if, answered, do_op, result_byte, do_rd, stored, written, written_to, do_wr, made, do_cons, perform, next_word, turned, counted, act}
 use Rattle.memory.specs.Fit.{WrFit, Needed, Fit}
-use Rattle.memory.specs.Laws.RowLaws.{sets_other, going_other, going_length}
+use Rattle.memory.proofs.Laws.RowLaws.{sets_other, going_other, going_length}
 use Rattle.counting.specs.Framed.{InHead, InRow, Framed, Fitting, fresh_row, wr_kind, place_of, stored_at}
 
 -- whichever a test says

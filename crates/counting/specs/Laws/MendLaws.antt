@@ -6,7 +6,7 @@ use Rattle.std.proofs.lemmas.List.Edits.{sets}
 use Rattle.std.proofs.Math.Seq.{length-sets}
 use Rattle.layout.specs.Layout.{head_size, row_size}
 use Rattle.layout.specs.State.{State}
-use Rattle.memory.specs.Laws.RowLaws.{sets_other, sets_at}
+use Rattle.memory.proofs.Laws.RowLaws.{sets_other, sets_at}
 use Rattle.counting.specs.declared.rows.Saved.{Saved}
 use Rattle.counting.specs.Framed.{InPart, InHead, InRow, Framed, numbers_of, row_of, Saves, restored_heads, restored_cells}
 

@@ -30,13 +30,13 @@ use Rattle.memory.specs.Choose.{Kept, holding as holding_in, fewer}
 use Rattle.memory.specs.Fit.{Fit}
 use Rattle.memory.specs.Frame.{After}
 use Rattle.memory.specs.Stands.{Stands}
-use Rattle.memory.specs.Laws.Acts.{acts, act_counts}
-use Rattle.memory.specs.Laws.CellLaws.{shown_operand}
-use Rattle.memory.specs.Laws.ChooseStands.{holds_same, holding_same}
-use Rattle.memory.specs.Laws.FitLaws.{fits}
+use Rattle.memory.proofs.Laws.Acts.{acts, act_counts}
+use Rattle.memory.proofs.Laws.CellLaws.{shown_operand}
+use Rattle.memory.proofs.Laws.ChooseStands.{holds_same, holding_same}
+use Rattle.memory.proofs.Laws.FitLaws.{fits}
 use Rattle.interpreter.specs.Laws.CountLaws.{holders_behind}
 use Rattle.counts.specs.Tally.{Kind, Kind.ends, Kind.stops, value_in, value_at, one_if, at_rest, at_refusal, after, holding, tally_by, tally}
-use Rattle.counts.specs.Laws.TallySteps.{from_command, tally_steps}
+use Rattle.counts.proofs.Laws.TallySteps.{from_command, tally_steps}
 use Rattle.counting.specs.declared.count.Asked.{Asked}
 use Rattle.counting.specs.declared.count.Tally.{Tally}
 use Rattle.counting.specs.Counting.{commands_in, AnyPlace, Truth, Stood, tallied, rest_tally, count_of, Tallies, Follows}

@@ -16,12 +16,12 @@ use Rattle.run.specs.Turns.{labels_from}
 use Rattle.layout.specs.Layout.{holds}
 use Rattle.layout.specs.State.{State}
 use Rattle.memory.specs.Choose.{flags}
-use Rattle.memory.specs.Laws.ChooseStands.{flags_same}
+use Rattle.memory.proofs.Laws.ChooseStands.{flags_same}
 use Rattle.counts.specs.Numbers.{sum}
 use Rattle.counts.specs.Tally.{Kind, Kind.ends, Kind.stops, value_at, at_rest, holding, tally_by, tally}
 use Rattle.counts.specs.CountEntry.{most_counted}
-use Rattle.counts.specs.Laws.TallySteps.{from_command, tally_steps}
-use Rattle.counts.specs.Laws.FitLaws.{counts_fit}
+use Rattle.counts.proofs.Laws.TallySteps.{from_command, tally_steps}
+use Rattle.counts.proofs.Laws.FitLaws.{counts_fit}
 use Rattle.counting.specs.declared.count.Asked.{Asked}
 use Rattle.counting.specs.declared.count.Tally.{Tally}
 use Rattle.counting.specs.Counting.{commands_in, Stood, Countable, tallied, count_of, Tallies, Follows, later, Sums}

@@ -13,7 +13,7 @@ use Rattle.layout.specs.State.{State, state_of}
 use Rattle.memory.specs.Act.{act}
 use Rattle.memory.specs.Fit.{Fit}
 use Rattle.memory.specs.Choose.{picked}
-use Rattle.memory.specs.Laws.ChooseStands.{picks}
+use Rattle.memory.proofs.Laws.ChooseStands.{picks}
 use Rattle.holders.specs.declared.Record.{Record}
 use Rattle.holders.specs.Records.{Recorded, holder_in}
 use Rattle.holders.specs.RecordsLaws.{picked_in}

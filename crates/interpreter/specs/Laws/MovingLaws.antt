@@ -12,9 +12,9 @@ use Rattle.sound.proofs.Laws.MoveKept.{active_open}
 use Rattle.layout.specs.State.{State}
 use Rattle.memory.specs.Stands.{bits, Stands}
 use Rattle.memory.specs.Plan.{start_code, At}
-use Rattle.memory.specs.Laws.PlanLaws.{code_below, past_start, past_fix, past_round, at_within}
+use Rattle.memory.proofs.Laws.PlanLaws.{code_below, past_start, past_fix, past_round, at_within}
 use Rattle.memory.specs.Move.{do_start, move}
-use Rattle.memory.specs.Laws.MoveLaws.{move_start, fix_begins, round_ends, round_again}
+use Rattle.memory.proofs.Laws.MoveLaws.{move_start, fix_begins, round_ends, round_again}
 use Rattle.interpreter.specs.Moving.{zeros, moves_left}
 
 -- an entry more, of either kind

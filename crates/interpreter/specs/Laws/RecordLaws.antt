@@ -11,7 +11,7 @@ use Rattle.sound.proofs.Laws.ElemLaws.{at_below}
 use Rattle.sound.proofs.Laws.FlagLaws.{Idle, flags_behind}
 use Rattle.layout.specs.Layout.{holds}
 use Rattle.layout.specs.State.{State}
-use Rattle.memory.specs.Laws.ChooseStands.{holds_same}
+use Rattle.memory.proofs.Laws.ChooseStands.{holds_same}
 use Rattle.holders.specs.declared.Record.{Record}
 use Rattle.holders.specs.Records.{idle, Recorded}
 use Rattle.interpreter.specs.Ready.{Ready}

@@ -5,7 +5,7 @@ use Rattle.std.proofs.Common.{sym, subst}
 use Rattle.machine.specs.Machine.{Machine}
 use Rattle.layout.specs.State.{State, state_of}
 use Rattle.layout.specs.Codes.{end_code}
-use Rattle.memory.specs.Laws.PlanLaws.{at_within}
+use Rattle.memory.proofs.Laws.PlanLaws.{at_within}
 use Rattle.memory.specs.Move.{move}
 use Rattle.scheduler.specs.Ready.{Movable}
 use Rattle.layout.specs.declared.Numbers.{Numbers}

@@ -25,18 +25,18 @@ use Rattle.layout.specs.Layout.{holds}
 use Rattle.layout.specs.State.{State}
 use Rattle.layout.specs.Codes.{end_code}
 use Rattle.memory.specs.Plan.{At}
-use Rattle.memory.specs.Laws.PlanLaws.{at_end_done}
+use Rattle.memory.proofs.Laws.PlanLaws.{at_end_done}
 use Rattle.memory.specs.Frame.{After}
 use Rattle.memory.specs.Stands.{Stands}
 use Rattle.memory.specs.Fit.{Fit}
-use Rattle.memory.specs.Laws.FitLaws.{fits}
+use Rattle.memory.proofs.Laws.FitLaws.{fits}
 use Rattle.memory.specs.Act.{act}
-use Rattle.memory.specs.Laws.Acts.{acts, act_counts, act_from}
+use Rattle.memory.proofs.Laws.Acts.{acts, act_counts, act_from}
 use Rattle.memory.specs.Choose.{holding, fewer, picked}
-use Rattle.memory.specs.Laws.ChooseStands.{holds_same, holding_same, picks}
+use Rattle.memory.proofs.Laws.ChooseStands.{holds_same, holding_same, picks}
 use Rattle.memory.specs.Move.{move as move_on}
-use Rattle.memory.specs.Laws.MoveLaws.{move_kept, move_from}
-use Rattle.memory.specs.Laws.MoveStands.{Follows, moves}
+use Rattle.memory.proofs.Laws.MoveLaws.{move_kept, move_from}
+use Rattle.memory.proofs.Laws.MoveStands.{Follows, moves}
 use Rattle.scheduler.specs.Ready.{Movable}
 use Rattle.scheduler.specs.ReadyLaws.{stands_movable}
 use Rattle.interpreter.specs.Ready.{Ready}

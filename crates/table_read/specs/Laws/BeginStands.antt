@@ -28,7 +28,7 @@ use Rattle.layout.specs.Layout.{head_size, row_size, cell}
 use Rattle.layout.specs.State.{State, state_of, set_count, set_place, fresh}
 use Rattle.memory.specs.Stands.{Shows, Stands, bits}
 use Rattle.memory.specs.Frame.{AllSlim}
-use Rattle.memory.specs.Laws.MadeLaws.{with_new, new_stands, new_slim}
+use Rattle.memory.proofs.Laws.MadeLaws.{with_new, new_stands, new_slim}
 use Rattle.table_read.specs.Laid.{cells_of, heads_laid, rows_laid, null_records, all_records}
 use Rattle.table_read.specs.Laws.LaidLaws.{cells_length, nulls_length}
 

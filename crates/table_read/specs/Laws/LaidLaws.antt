@@ -15,7 +15,7 @@ use Rattle.types.specs.Values.{Val}
 use Rattle.table.specs.Table.{Record}
 use Rattle.sound.proofs.Laws.ElemLaws.{none_some, some_is}
 use Rattle.layout.specs.Layout.{head_size, head, struct_of, row_size, new_head}
-use Rattle.memory.specs.Laws.RowLaws.{sets_other, sets_at}
+use Rattle.memory.proofs.Laws.RowLaws.{sets_other, sets_at}
 use Rattle.table_read.specs.Laid.{cells_of, head_laid, row_laid, heads_laid, rows_laid, null_records}
 use Rattle.table_read.specs.Refer.{struct_in}
 

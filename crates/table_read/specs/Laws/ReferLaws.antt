@@ -20,7 +20,7 @@ use Rattle.table.proofs.Laws.SizeLaws.{each_length}
 use Rattle.table.specs.TableReader.{is_struct, refers, refers_each, references}
 use Rattle.sound.proofs.Laws.ElemLaws.{at_append, at_behind, all_elem}
 use Rattle.layout.specs.Layout.{head_size, row_size, cell}
-use Rattle.memory.specs.Laws.CellLaws.{operand_part}
+use Rattle.memory.proofs.Laws.CellLaws.{operand_part}
 use Rattle.table_read.specs.Params.{types_from, lists_of}
 use Rattle.table_read.specs.Laws.ParamsLaws.{list_is, types_length, lists_length}
 use Rattle.table_read.specs.Laid.{cells_of, heads_laid, rows_laid, null_records, all_records}

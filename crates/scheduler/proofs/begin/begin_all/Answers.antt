@@ -2,7 +2,7 @@
 -- at first. The measure is how many instances are left.
 use Rattle.std.proofs.Common.{◌≤◌, ◌-◌, ◌≡◌, refl, sym, ap, ◌∙◌, arith, length}
 use Rattle.memory.specs.Move.{begin_all}
-use Rattle.memory.specs.Laws.BeginLaws.{one_length}
+use Rattle.memory.proofs.Laws.BeginLaws.{one_length}
 use Rattle.scheduler.specs.BeginWays.{row_of, one_rows, all_done, all_next}
 use Rattle.scheduler.proofs.begin.begin_all.Goals as goal
 

@@ -1,0 +1,3 @@
+pub mod Exhibits
+pub mod AnswerRows
+pub mod Laws
