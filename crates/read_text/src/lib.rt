@@ -1,6 +1,7 @@
 // Program text read into an image (02 §1): 15, 16, 17 and 13 in that order, or the image of the program that the text means. Each pass goes over the places
 // of the text in memory of its own, so that no function follows the nesting of the text.
 #![tactic(auto)]
+
 ghost use Rattle.std.specs.Prelude.{◌≡◌, ◌<◌, ◌≤◌, length};
 ghost use Rattle.std.proofs.Math.Option.{some};
 ghost use Rattle.tokens.specs.Scanning.{lex};
