@@ -1,6 +1,7 @@
 // The commands that work on the actor's own stack (000, rules ComPush, ComPushThis, ComNot, ComIfT and ComIfF), and what every command is
 // handed and answers. The contracts are equations with `memory/specs/Act.antt`.
 #![tactic(auto)]
+
 ghost use Rattle.std.specs.Prelude.{◌≡◌, [], ◌+◌, ◌*◌, ◌<◌, length, get_or, set};
 ghost use Rattle.types.specs.Limits.{max_instances, max_depth};
 ghost use Rattle.layout.specs.Layout.{head_size, head_end, row_size, head, struct_of, stacked, going};
