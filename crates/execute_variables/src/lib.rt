@@ -1,5 +1,6 @@
 // The commands that read and write a variable (000, rules ComRd, ComWr and ComWrNSkip).
 #![tactic(auto)]
+
 ghost use Rattle.std.specs.Prelude.{◌≡◌, [], ◌<◌, length, get_or, set};
 ghost use Rattle.types.specs.Limits.{max_instances};
 ghost use Rattle.layout.specs.Layout.{head, struct_of, operand};
