@@ -1,5 +1,6 @@
 // The operators on the stack (000, rule ComOp; 01, number 35).
 #![tactic(auto)]
+
 ghost use Rattle.std.specs.Prelude.{◌≡◌, []};
 ghost use Rattle.memory.specs.Act.{result_byte, do_op};
 ghost use Rattle.memory.specs.Fit.{OpFit};
