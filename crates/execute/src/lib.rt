@@ -1,6 +1,7 @@
 // A command on lent memory, by its kind (01, 'Table and turns'; 000's rules for commands). The height of the actor's stack and the place of
 // its command are read once and handed on. The contract is an equation with `memory/specs/Act.antt`.
 #![tactic(auto)]
+
 ghost use Rattle.std.specs.Prelude.{◌%◌};
 ghost use Rattle.layout.specs.Layout.{operand};
 ghost use Rattle.memory.specs.Act.{perform};
