@@ -1,6 +1,7 @@
 // The chosen holder, searched for in a lent slice of instance records (01, 'Table and turns'; 02, 'Turns that go round': "counted from the label
 // after the one that acted last, wrapping past the highest").
 #![tactic(auto)]
+
 ghost use Rattle.std.specs.Prelude.{◌≡◌, ◌*◌, ◌≤◌, length};
 ghost use Rattle.types.specs.Limits.{max_instances};
 ghost use Rattle.layout.specs.Layout.{head_size};
