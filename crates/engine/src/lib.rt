@@ -1,5 +1,6 @@
 // The machine of a run (01, 'Table and turns'): a few numbers by value, over the memory that the run is lent.
 #![tactic(auto)]
+
 ghost use Rattle.std.specs.Prelude.{◌≡◌, List, ℕ, ◌^◌, ◌<◌, length};
 ghost use Rattle.layout.specs.Layout.{head, end_of, holds};
 ghost use Rattle.layout.specs.State.{state_of};
