@@ -19,40 +19,40 @@ records-rs-requires c =
 
 pub take_turns-next-requires : goal.take_turns-next-requires
 take_turns-next-requires c =
-    let stays = stays_on (c.settle-settled.ensures c.args.cells.now) idle c.going_at-next.ensures c.loop-next.inv.2 in
+    let stays = stays_on (c.settle-settled.ensures c.args.cells.now) idle c.going_at-next.ensures c.loop-next.invariant.2 in
     stays_turning stays c.loop-next-test.true c.requires c.records-rs.ensures
 
 pub settle-moved-requires : goal.settle-moved-requires
 settle-moved-requires c =
-    let stays = stays_on (c.settle-settled.ensures c.args.cells.now) idle c.going_at-next.ensures c.loop-next.inv.2 in
-    passed_standing stays c.loop-next-test.taken c.requires c.take_turns-next.ensures c.if-next-eq0.true
+    let stays = stays_on (c.settle-settled.ensures c.args.cells.now) idle c.going_at-next.ensures c.loop-next.invariant.2 in
+    passed_standing stays c.loop-next-test.true c.requires c.take_turns-next.ensures c.if-next-eq0.true
 
 pub loop-next-smaller-then-next-eq0 : goal.loop-next-smaller-then-next-eq0
 loop-next-smaller-then-next-eq0 c =
-    let stays = stays_on (c.settle-settled.ensures c.args.cells.now) idle c.going_at-next.ensures c.loop-next.inv.2 in
-    passed_more_less stays c.loop-next-test.taken c.take_turns-next.ensures c.if-next-eq0.taken
+    let stays = stays_on (c.settle-settled.ensures c.args.cells.now) idle c.going_at-next.ensures c.loop-next.invariant.2 in
+    passed_more_less stays c.loop-next-test.true c.take_turns-next.ensures c.if-next-eq0.true
     c.settle-moved.result idle c.going_at-next-then-next-eq0.ensures
 
 pub loop-next-preserved-then-next-eq0 : goal.loop-next-preserved-then-next-eq0
 loop-next-preserved-then-next-eq0 c =
     (
-      c.settle-moved.kept.1.1.1.0 ∙ c.take_turns-next.kept.1.1.1.1.0 ∙ c.loop-next.inv.0,
-      c.take_turns-next.kept.1.1.1.1.1.0 ∙ c.loop-next.inv.1,
-      λ z s. passed_more (c.loop-next.inv.2 z s) c.loop-next-test.taken c.take_turns-next.ensures c.if-next-eq0.taken
+      c.settle-moved.auto.heads ∙ c.take_turns-next.auto.heads ∙ c.loop-next.invariant.0,
+      c.take_turns-next.auto.cells ∙ c.loop-next.invariant.1,
+      λ z s. passed_more (c.loop-next.invariant.2 z s) c.loop-next-test.true c.take_turns-next.ensures c.if-next-eq0.true
           c.settle-moved.result idle c.going_at-next-then-next-eq0.ensures (c.settle-moved.ensures _),
     )
 
 pub loop-next-smaller : goal.loop-next-smaller
 loop-next-smaller c =
-    let stays = stays_on (c.settle-settled.ensures c.args.cells.now) idle c.going_at-next.ensures c.loop-next.inv.2 in
-    passed_over_less stays c.loop-next-test.taken c.take_turns-next.ensures
+    let stays = stays_on (c.settle-settled.ensures c.args.cells.now) idle c.going_at-next.ensures c.loop-next.invariant.2 in
+    passed_over_less stays c.loop-next-test.true c.take_turns-next.ensures
 
 pub loop-next-preserved : goal.loop-next-preserved
 loop-next-preserved c =
     (
-      c.take_turns-next.kept.1.1.1.1.0 ∙ c.loop-next.inv.0,
-      c.take_turns-next.kept.1.1.1.1.1.0 ∙ c.loop-next.inv.1,
-      λ z s. passed_over (c.loop-next.inv.2 z s) c.loop-next-test.taken c.take_turns-next.ensures c.if-next-eq0.false,
+      c.take_turns-next.auto.heads ∙ c.loop-next.invariant.0,
+      c.take_turns-next.auto.cells ∙ c.loop-next.invariant.1,
+      λ z s. passed_over (c.loop-next.invariant.2 z s) c.loop-next-test.true c.take_turns-next.ensures c.if-next-eq0.false,
     )
 
 pub returns : goal.returns

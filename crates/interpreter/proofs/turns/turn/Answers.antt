@@ -12,12 +12,12 @@ returns-then-number-ne0 c =
       machine = c.command-machine.result;
       acted = c.command-machine.ensures;
       goes =
-          c.resting.ensures ∙ sym (behind_refused a.turns.now a.s c.command-machine.result (holds c.command-machine.last.1.1.1.0 a.l)
+          c.resting.ensures ∙ sym (behind_refused a.turns.now a.s c.command-machine.result (holds c.command-machine.new.heads a.l)
           c.if-number-ne0.true);
     }
 
 pub overflow_add-s : goal.overflow_add-s
-overflow_add-s c = omega (arith, c.requires.2, c.good.1.1.1.1.1.1.0.1)
+overflow_add-s c = omega (arith, c.requires.2)
 
 pub returns : goal.returns
 returns c =
@@ -29,5 +29,5 @@ returns c =
       acted = c.command-machine.ensures;
       goes =
           c.going_at.ensures ∙ ap (λ (t : Bool). going_at es m (a.s.taken + 1) (record { holds = t })) c.holds-holds.ensures
-          ∙ sym (behind_taken es a.s m (holds c.command-machine.last.1.1.1.0 a.l) c.if-number-ne0.false);
+          ∙ sym (behind_taken es a.s m (holds c.command-machine.new.heads a.l) c.if-number-ne0.false);
     }
