@@ -4,15 +4,12 @@ use Rattle.compile.proofs.program.Goals as goal
 
 pub of_rows-requires : goal.of_rows-requires
 of_rows-requires c =
-    let start' : tie.Start = c in
-    let h = start'.requires in (h.rows_long, rows_held h, h.spans_long, structs_few h)
+    let h = c.requires in (h.rows_long, rows_held h, h.spans_long, structs_few h)
 
 pub schedule-requires : goal.schedule-requires
 schedule-requires c =
-    let start' : tie.Start = c in
-    codes_ready start'.requires
+    codes_ready c.requires
 
 pub returns : goal.returns
 returns c =
-    let start' : tie.Start = c in
-    prepared start'.requires c.of_rows.ensures c.schedule.ensures.laid_program
+    prepared c.requires c.of_rows.ensures c.schedule.ensures.laid_program

@@ -11,7 +11,7 @@ pub loop-left-preserved : goal.loop-left-preserved
 loop-left-preserved c =
     let h = c.loop-left.invariant in (
       omega arith,
-      c.pair.auto.0 ∙ h.1,
+      c.pair.auto.spans ∙ h.1,
       rw c.pair.ensures
           (sym (cleared_one c.loop-left.left c.loop-left.i c.loop-left.spans c.loop-left-test.true) ∙ h.2),
     )

@@ -12,7 +12,7 @@ pub overflow_sub-i : goal.overflow_sub-i
 overflow_sub-i c = omega (arith, c.loop-i-test.true)
 
 pub row_at-requires : goal.row_at-requires
-row_at-requires c = omega (arith, c.loop-i-test.true, c.loop-i.invariant.0, c.requires.0, c.good.0)
+row_at-requires c = omega (arith, c.loop-i-test.true, c.loop-i.invariant.0, c.requires.0)
 
 pub note_row-requires : goal.note_row-requires
 note_row-requires c =
@@ -22,14 +22,14 @@ note_row-requires c =
     )
 
 pub loop-i-smaller : goal.loop-i-smaller
-loop-i-smaller c = omega (arith, c.loop-i-test.taken)
+loop-i-smaller c = omega (arith, c.loop-i-test.true)
 
 pub loop-i-preserved : goal.loop-i-preserved
 loop-i-preserved c =
-    let h = c.loop-i.inv in
-    let some = c.loop-i-test.taken in (
+    let h = c.loop-i.invariant in
+    let some = c.loop-i-test.true in (
       omega (arith, h.0),
-      c.note_row.kept.0 ∙ h.1,
+      c.note_row.auto.spans ∙ h.1,
       noted_more _ _ _ _ _ _ _ c.row_at.ensures some h.0 h.2 c.note_row.ensures,
     )
 
