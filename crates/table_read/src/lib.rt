@@ -2,6 +2,7 @@
 // out: six numbers for each instance in `heads`, thirty-two cells for each in `cells`. Of a program's parameters `counts` has for each
 // struct how many there are, and `types` eight places with the bytes of their types.
 #![tactic(auto)]
+
 mod nulls;
 mod reading;
 mod refer;

@@ -16,7 +16,7 @@ returns-in_default c =
     let e = c.count_refusal.ensures ∙ ap count_refusal c.in_default.is in
     let q = table_refused args.s.now pss c.in_default.field-0
     (sym c.in_default.is ∙ c.count-q.ensures.value pss (lists_length args.types.now 0 args.counts.now)) in
-    let both = rw (q, e) (refl, tt) in record { value = both.0; table_laid = both.1 }
+    record { value = rw (q, e) refl; table_laid = rw q tt }
 
 pub behind-requires : goal.behind-requires
 behind-requires c =
@@ -30,4 +30,4 @@ returns c =
     let counted = rw c.in-Count.is at c.count-q.ensures.counted in
     let q = table_behind args.s.now pss (λ i. (c.type_inv.s i).fits) counted.0 c.in-Count.n
     (sym c.in-Count.is ∙ c.count-q.ensures.value pss (lists_length args.types.now 0 args.counts.now)) in
-    let both = rw q (c.behind.ensures.value, c.behind.ensures.table_laid) in record { value = both.0; table_laid = both.1 }
+    record { value = rw q c.behind.ensures.value; table_laid = rw q c.behind.ensures.table_laid }

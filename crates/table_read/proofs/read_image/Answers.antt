@@ -1,5 +1,5 @@
 -- `read_image` meets its contract: the image is refused, or its stream is read.
-use Rattle.std.proofs.Common.{◌≡◌, ◌∙◌, sym, refl, arith, take, length-take-le}
+use Rattle.std.proofs.Common.{◌≡◌, ◌≤◌, ◌∙◌, sym, refl, arith, length, take, length-take-le}
 use Rattle.blocks.specs.Images.{stream}
 use Rattle.blocks.proofs.OpeningLaws.{opened_fault, opened_stream, opened_front}
 use Rattle.table_read.specs.Params.{lists_of}
@@ -8,26 +8,26 @@ use Rattle.table_read.proofs.read_image.Goals as goal
 
 pub returns-in_default : goal.returns-in_default
 returns-in_default c =
-    let start' : tie.Start = c in
-    let args = start'.args in let y = args.image.now in let told = c.in_default.is in
+    let args = c.args in let y = args.image.now in let told = c.in_default.is in
     let q = image_refused y (lists_of args.counts.now args.types.now) _ (opened_fault _ y _ (sym c.open_image-r.ensures.value ∙ told)) in
-    let both = rw (q, c.table_number.ensures, c.fault_of.ensures, told) (refl, tt) in record { value = both.0; table_laid = both.1 }
+    record { value = rw (q, c.table_number.ensures, c.fault_of.ensures, told) refl; table_laid = rw q tt }
 
 pub slice_bounds-read-end : goal.slice_bounds-read-end
 slice_bounds-read-end c =
-    let start' : tie.Start = c in
-    let begin = start' in
-    let h = opened_stream _ begin.args.image.now _ (sym c.open_image-r.ensures.value ∙ c.in-Stream.is) in
-    omega (arith, h.2, c.open_image-r.auto.1.1.0, begin.requires.table_blocks_in_bounds)
+    let h = opened_stream _ c.args.image.now _ (sym c.open_image-r.ensures.value ∙ c.in-Stream.is) in
+    omega (arith, h.2, c.open_image-r.auto.buffer, c.requires.table_blocks_in_bounds)
 
 pub slice_bounds-read-end-2 : goal.slice_bounds-read-end-2
-slice_bounds-read-end-2 c = sym (length-take-le _ _ (slice_reshare_prefix_read c))
+slice_bounds-read-end-2 c =
+    let h = opened_stream _ c.args.image.now _ (sym c.open_image-r.ensures.value ∙ c.in-Stream.is) in
+    let k : c.in-Stream.n ≤ length c.open_image-r.new.buffer =
+    omega (arith, h.2, c.open_image-r.auto.buffer, c.requires.table_blocks_in_bounds) in
+    sym (length-take-le _ _ k)
 
 pub returns : goal.returns
 returns c =
-    let start' : tie.Start = c in
-    let told = c.in-Stream.is in let args = start'.args in let y = args.image.now in
+    let told = c.in-Stream.is in let args = c.args in let y = args.image.now in
     let h = opened_stream _ y _ (sym c.open_image-r.ensures.value ∙ told) in
-    let f : take c.in-Stream.n c.open_image-r.last.1.1.0 ≡ stream y =
-    opened_front y _ _ told c.open_image-r.ensures.buffer_after h.1 in
-    let both = rw (image_read y (lists_of args.counts.now args.types.now) h.0) (rw f at (c.read.ensures.value, c.read.ensures.table_laid)) in record { value = both.0; table_laid = both.1 }
+    let f : take c.in-Stream.n c.open_image-r.new.buffer ≡ stream y = opened_front y _ _ told c.open_image-r.ensures.buffer_after h.1 in
+    let q = image_read y (lists_of args.counts.now args.types.now) h.0 in
+    record { value = rw q (rw f at c.read.ensures.value); table_laid = rw q (rw f at c.read.ensures.table_laid) }

@@ -4,7 +4,7 @@ use Rattle.layout.specs.Layout.{cell}
 use Rattle.table_read.proofs.nulls.null_cell.Goals as goal
 
 pub cell-requires : goal.cell-requires
-cell-requires c = omega (arith, c.default_word-w.type-inv)
+cell-requires c = omega (arith, c.default_word-w.type_inv)
 
 pub returns : goal.returns
 returns c =

@@ -16,11 +16,11 @@ pub loop-k-preserved : goal.loop-k-preserved
 loop-k-preserved c =
     let loop = c.loop-k in let args = c.args in
     let inv = loop.invariant in (
-      (omega arith, c.seat.auto.0 ∙ inv.0.1, c.defaults.auto.1.1.1.0 ∙ inv.0.2),
+      (omega arith, c.seat.auto.heads ∙ inv.0.1, c.defaults.auto.cells ∙ inv.0.2),
       (
-        heads_turn args.counts.now args.types.now loop.heads c.seat.new.0 loop.k c.loop-k-test.true
+        heads_turn args.counts.now args.types.now loop.heads c.seat.new.heads loop.k c.loop-k-test.true
             c.seat.ensures ∙ inv.1.0,
-        rows_turn args.counts.now args.types.now loop.cells c.defaults.new.1.1.1.0 loop.k
+        rows_turn args.counts.now args.types.now loop.cells c.defaults.new.cells loop.k
             c.index.result c.loop-k-test.true c.index.ensures.0 c.defaults.ensures ∙ inv.1.1,
       ),
     )

@@ -20,4 +20,4 @@ values-requires c =
 pub returns : goal.returns
 returns c =
     let values = c.values in let args = c.args in
-    let v = rw c.index-k.ensures.0 at values.ensures.0 in record { record_laid = record_right args.counts.now args.types.now args.s.now args.at args.heads.now args.cells.now args.l c.if-s-at.false c.index-k.result c.index-k.ensures.0 c.if-counts-k.false c.seat.new.0 c.seat.ensures values.result values.new.1.1.1.1.1.0 v; within = within_from args.s.now args.at _ values.result (omega arith) values.ensures.1 }
+    let v = rw c.index.ensures.0 at values.ensures.values_laid in record { record_laid = record_right args.counts.now args.types.now args.s.now args.at args.heads.now args.cells.now args.l c.if-s-at.false c.index-k.result c.index-k.ensures.0 c.if-counts-k.false c.seat.new.heads c.seat.ensures values.result values.new.cells v; within = within_from args.s.now args.at _ values.result (omega arith) values.ensures.within }
