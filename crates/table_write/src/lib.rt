@@ -1,6 +1,7 @@
 // The instances in lent memory, written as a table image (01, 'Table and turns'). Memory holds them as `memory` lays a machine out, and as
 // `table_read` reads them.
 #![tactic(auto)]
+
 mod writing;
 
 ghost use Rattle.std.specs.Prelude.{◌≡◌, ◌*◌, ◌≤◌, length};

@@ -1,41 +1,50 @@
 -- `write` meets its contract: the stream of the instances fits the buffer and its blocks the output.
-use Rattle.std.proofs.Common.{arith, ◌≡◌, sym, ⊎_elim, length-take-le}
+use Rattle.std.proofs.Common.{arith, ◌≡◌, ◌≤◌, sym, length, length-take-le}
 use Rattle.blocks.specs.declared.Written.TheVariants.{Blocks}
 use Rattle.table_write.specs.Written.{memory_blocks}
 use Rattle.table_write.specs.WrittenWays.{stream_fits, blocks_are, image_is}
 use Rattle.table_write.proofs.write.Goals as goal
+use Rattle.table_write.proofs.write.Goals.{After-stream-len, After-write_image-w}
 
 pub stream-len-requires : goal.stream-len-requires
-stream-len-requires c =
-    let start' : tie.Start = c in
-    let pre = start'.requires in record { filled = pre.0; counts_len_bound = omega (arith, pre.0.most) }
+stream-len-requires c = record { filled = c.requires.filled; counts_len_bound = omega (arith, c.requires.filled.most) }
 
-pub slice_bounds-write_image-end : goal.slice_bounds-write_image-end
-slice_bounds-write_image-end c =
-    let start' : tie.Start = c in
-    let s = start' in let args = s.args in
+-- the stream fits the buffer
+fits : (c : After-stream-len) → c.stream-len.result ≤ length c.stream-len.new.out
+fits c =
+    let args = c.args in
     omega (
       arith,
-      stream_fits args.counts.now args.heads.now args.cells.now args.n s.requires.filled,
+      stream_fits args.counts.now args.heads.now args.cells.now args.n c.requires.filled,
       c.stream-len.ensures.value,
-      c.stream-len.kept.1.1.1.1.0,
-      s.requires.counts_len_bound.1,
+      c.stream-len.auto.out,
+      c.requires.counts_len_bound.1,
     )
 
+pub slice_bounds-write_image-end : goal.slice_bounds-write_image-end
+slice_bounds-write_image-end c = fits (goal.at.slice_bounds-write_image-end c).After-stream-len
+
 pub slice_bounds-write_image-end-2 : goal.slice_bounds-write_image-end-2
-slice_bounds-write_image-end-2 c = sym (length-take-le _ _ (slice_reshare_prefix_write_image c))
+slice_bounds-write_image-end-2 c = sym (length-take-le _ _ (fits (goal.at.slice_bounds-write_image-end-2 c).After-stream-len))
+
+-- the blocks that are written
+blocks : (c : After-write_image-w)
+    → c.write_image-w.result ≡ Blocks (memory_blocks c.args.counts.now c.args.heads.now c.args.cells.now c.args.n)
+blocks c =
+    let args = c.args in let d = c.stream-len in let w = c.write_image-w in let b = c.requires.counts_len_bound in
+    blocks_are args.counts.now args.heads.now args.cells.now args.n c.requires.filled _ d.new.out d.result w.result
+    args.out.now w.new.out b.1 d.ensures.value d.ensures.out_after b.2 w.ensures.value w.ensures.out_after
 
 pub returns-in_default : goal.returns-in_default
-returns-in_default c =
-    let start' : tie.Start = c in
-    let the_start' : tie.Start = start' in
-    let blocks' : c.write_image-w.result ≡ Blocks (memory_blocks the_start'.args.counts.now the_start'.args.heads.now the_start'.args.cells.now the_start'.args.n) = let s = the_start' in let args = s.args in let d = c.stream-len in let w = c.write_image-w in blocks_are args.counts.now args.heads.now args.cells.now args.n s.requires.filled _ d.last.1.1.1.1.0 d.result w.result args.out.now w.new.1.1.0 s.requires.counts_len_bound.1 d.ensures.0 d.ensures.1 s.requires.counts_len_bound.2 w.ensures.0 w.ensures.1 in
-    absurd (⊎_elim (λ e. omega arith) (λ e. omega arith) (rw blocks' at c.in_default.keys2))
+returns-in_default c = let are = blocks (goal.at.returns-in_default c).After-write_image-w in absurd (c.in_default.not-Blocks _ are)
 
 pub returns : goal.returns
 returns c =
-    let start' : tie.Start = c in
-    let the_start' : tie.Start = start' in
-    let blocks' : c.write_image-w.result ≡ Blocks (memory_blocks the_start'.args.counts.now the_start'.args.heads.now the_start'.args.cells.now the_start'.args.n) = let s = the_start' in let args = s.args in let d = c.stream-len in let w = c.write_image-w in blocks_are args.counts.now args.heads.now args.cells.now args.n s.requires.filled _ d.last.1.1.1.1.0 d.result w.result args.out.now w.new.1.1.0 s.requires.counts_len_bound.1 d.ensures.0 d.ensures.1 s.requires.counts_len_bound.2 w.ensures.0 w.ensures.1 in
-    let are = blocks' in let told = c.in-Blocks.is in
-    let s = the_start' in let args = s.args in let d = c.stream-len in let w = c.write_image-w in record { value = cc; out_after = image_is args.counts.now args.heads.now args.cells.now args.n s.requires.filled _ d.last.1.1.1.1.0 d.result w.result args.out.now w.last.1.1.0 s.requires.counts_len_bound.1 d.ensures.0 d.ensures.1 s.requires.counts_len_bound.2 w.ensures.0 w.ensures.1 }
+    let are = blocks (goal.at.returns c).After-write_image-w in let told = c.in-Blocks.is in
+    let args = c.args in let d = c.stream-len in let w = c.write_image-w in let b = c.requires.counts_len_bound in
+    record {
+      value = cc;
+      out_after =
+          image_is args.counts.now args.heads.now args.cells.now args.n c.requires.filled _ d.new.out d.result w.result
+          args.out.now w.new.out b.1 d.ensures.value d.ensures.out_after b.2 w.ensures.value w.ensures.out_after;
+    }

@@ -42,18 +42,18 @@ overflow_add-next c =
 pub loop-l-preserved : goal.loop-l-preserved
 loop-l-preserved c =
     let few' : c.index-m.result ≤ max_params = omega (arith, c.index-m.ensures.0, c.requires.filled.each c.head-k.result) in
-    let args = c.args in let loop = c.loop-l in let b = c.loop-l-test.taken in (
+    let args = c.args in let loop = c.loop-l in let b = c.loop-l-test.true in (
       (
         omega arith,
         omega (arith, few'),
-        c.values.auto.0 ∙ length-set loop.out-1 loop.next c.head-k.result ∙ loop.inv.0.2,
+        c.values.auto.out ∙ length-set loop.out loop.next c.head-k.result ∙ loop.invariant.0.2,
       ),
       (
         rows_place args.counts.now args.heads.now args.cells.now args.n loop.l b c.head-k.result c.index-m.result
-            c.head-k.ensures.0 c.index-m.ensures.0 loop.next ∙ loop.inv.1.0,
+            c.head-k.ensures.0 c.index-m.ensures.0 loop.next ∙ loop.invariant.1.0,
         rows_turn args.counts.now args.heads.now args.cells.now args.n loop.l b c.head-k.result c.index-m.result
-            c.head-k.ensures.0 c.index-m.ensures.0 loop.next loop.out-1 c.values.new.0 c.values.ensures
-            ∙ loop.inv.1.1,
+            c.head-k.ensures.0 c.index-m.ensures.0 loop.next loop.out c.values.new.out c.values.ensures
+            ∙ loop.invariant.1.1,
       ),
     )
 
@@ -62,7 +62,6 @@ shape_of-out c = c.loop-l.invariant.0.2
 
 pub returns : goal.returns
 returns c =
-    let at-slice-known = in
-    let args = at-slice-known.args in let loop = c.loop-l in
+    let args = c.args in let loop = c.loop-l in
     let none = rows_end args.counts.now args.heads.now args.cells.now args.n loop.l c.loop-l-test.false loop.next loop.out in
     record { value = none.0 ∙ loop.invariant.1.0; out_after = none.1 ∙ loop.invariant.1.1 }

@@ -12,8 +12,8 @@ loop-x-init c =
 pub loop-x-preserved : goal.loop-x-preserved
 loop-x-preserved c =
     let loop = c.loop-x in let args = c.args in (
-      (omega arith, c.put_word.auto.0 ∙ loop.invariant.0.1),
-      cells_turn args.at args.cells.now args.place args.m loop.out c.put_word.new.0 loop.x c.loop-x-test.true
+      (omega arith, c.put_word.auto.out ∙ loop.invariant.0.1),
+      cells_turn args.at args.cells.now args.place args.m loop.out c.put_word.new.out loop.x c.loop-x-test.true
           c.operand.ensures.0 c.put_word.ensures ∙ loop.invariant.1,
     )
 
