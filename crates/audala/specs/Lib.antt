@@ -1,5 +1,4 @@
 pub mod Exported
 pub mod Images
 pub mod Listed
-pub mod ListedLaws
 pub mod Counted

@@ -58,8 +58,7 @@ fn of_written(r: Written) -> Copied
 }
 
 // The stream of an image of at most so many blocks, in the front of the buffer.
-#[unsafe(no_mangle)]
-pub extern "C" fn audala_read_image(image: &[u8], most: usize, buffer: &mut [u8]) -> Copied
+pub fn audala_read_image(image: &[u8], most: usize, buffer: &mut [u8]) -> Copied
     ensures value { result ≡ exported_read (read most image.now (length buffer.old)) }
     ensures buffer_after { buffer.new
         ≡ read_into (read most image.now (length buffer.old)) (stream image.now) buffer.old }
@@ -69,8 +68,7 @@ pub extern "C" fn audala_read_image(image: &[u8], most: usize, buffer: &mut [u8]
 }
 
 // The image of a stream in at most so many blocks, in the front of the output.
-#[unsafe(no_mangle)]
-pub extern "C" fn audala_write_image(bytes: &[u8], most: usize, output: &mut [u8]) -> Copied
+pub fn audala_write_image(bytes: &[u8], most: usize, output: &mut [u8]) -> Copied
     ensures value { result ≡ exported_write (write most (length bytes.now) (length output.old)) }
     ensures output_after { output.new
         ≡ written_into (write most (length bytes.now) (length output.old)) bytes.now output.old }

@@ -1,6 +1,7 @@
-// The checker, the run and the reader of program text as a static library for C and Rust (01, 'Numbers from the input', 'Numbers from the state';
-// 02 §1); include/audala.h declares it.
+// The checker, the run and the reader of program text as a library (01, 'Numbers from the input', 'Numbers from the state'; 02 §1). The crate audala_c
+// exports it for C and Rust; include/audala.h declares that.
 #![tactic(auto)]
+
 pub mod images;
 pub mod listings;
 pub mod places;
@@ -26,8 +27,7 @@ pub struct Answer {
 }
 
 // A program image to a verdict, and its commands to the list.
-#[unsafe(no_mangle)]
-pub extern "C" fn audala_check(image: &[u8], list: &mut [u64]) -> Answer
+pub fn audala_check(image: &[u8], list: &mut [u64]) -> Answer
     ensures value { result ≡ exported (check_verdict image.now list.old) }
     ensures list_after { list.new ≡ check_list image.now list.old }
 {
@@ -51,8 +51,7 @@ pub struct Part {
 }
 
 // The part of the list for a step; it begins at 0 and has 0 places where the image or the list is refused or the step is not there.
-#[unsafe(no_mangle)]
-pub extern "C" fn audala_step(image: &[u8], list: &[u64], structure: u8, name: u8) -> Part
+pub fn audala_step(image: &[u8], list: &[u64], structure: u8, name: u8) -> Part
     ensures { result ≡ exported_part (step_place image.now list.now structure name) }
 {
     let p = step_part::step_place(image, list, structure, name);
@@ -75,8 +74,7 @@ pub struct Report {
 }
 
 // A program image, a table image and turn bytes to a report, the last table to the output and the commands to the list.
-#[unsafe(no_mangle)]
-pub extern "C" fn audala_run(
+pub fn audala_run(
     program: &[u8],
     table: &[u8],
     turns: &[u8],

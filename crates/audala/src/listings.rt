@@ -7,8 +7,7 @@ use crate::images::Copied;
 use listing::image;
 
 // The listing of an image in the front of the output, and the count of its bytes; 13 where the output is shorter than any listing may be.
-#[unsafe(no_mangle)]
-pub extern "C" fn audala_listing(image: &[u8], output: &mut [u8]) -> Copied
+pub fn audala_listing(image: &[u8], output: &mut [u8]) -> Copied
     ensures value { result ≡ exported_listing (listing_of image.now) output.old }
     ensures output_after { output.new ≡ listed (listing_of image.now) output.old }
 {

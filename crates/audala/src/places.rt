@@ -10,8 +10,7 @@ pub struct Stopped {
 }
 
 // Where reading a text stops; at its end where the end is the place.
-#[unsafe(no_mangle)]
-pub extern "C" fn audala_place(text: &[u8]) -> Stopped
+pub fn audala_place(text: &[u8]) -> Stopped
     ensures { result.at ≡ place text.now }
 {
     let at = text_place::place(text);

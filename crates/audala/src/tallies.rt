@@ -14,8 +14,7 @@ pub struct Counts {
 }
 
 // A program image, a table image, a step name, a label and a parameter to the three counts, and the commands to the list.
-#[unsafe(no_mangle)]
-pub extern "C" fn audala_count(
+pub fn audala_count(
     program: &[u8],
     table: &[u8],
     name: u32,

@@ -6,8 +6,7 @@ ghost use Rattle.audala.specs.Images.{copied};
 use crate::images::Copied;
 
 // The number of a refusal, else 0, and the blocks that are written; the image of the text's program in the front of the output.
-#[unsafe(no_mangle)]
-pub extern "C" fn audala_text(text: &[u8], output: &mut [u8]) -> Copied
+pub fn audala_text(text: &[u8], output: &mut [u8]) -> Copied
     ensures value { result ≡ copied (text_number text.now output.old) (text_blocks text.now output.old) }
     ensures output_after { output.new ≡ text_output text.now output.old }
 {

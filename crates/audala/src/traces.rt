@@ -15,8 +15,7 @@ pub struct Traced {
 }
 
 // Of the text of a trace the bytes from a place on, as many as the output holds, in the front of the output.
-#[unsafe(no_mangle)]
-pub extern "C" fn audala_trace(
+pub fn audala_trace(
     program: &[u8],
     table: &[u8],
     turns: &[u8],

@@ -1,6 +1,6 @@
 -- `audala_listing` meets its contract: the output is too short, or `listing` writes into its front.
 use borrow.Author.Rules.{rules}
-use Rattle.audala.specs.ListedLaws.{short_listed, placed_listed}
+use Rattle.audala.proofs.ListedLaws.{short_listed, placed_listed}
 use Rattle.audala.proofs.listings.audala_listing.Statement.{statement}
 use Rattle.audala.proofs.listings.audala_listing.Tie as tie
 
