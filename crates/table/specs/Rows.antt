@@ -5,7 +5,7 @@ use Rattle.types.specs.TypeBytes.{word_end}
 use Rattle.types.specs.Types.{Ty, Ty.int, Ty.nat, Ty.bool, Ty.ref}
 use Rattle.types.specs.Values.{Val, Val.int_val, Val.nat_val, Val.bool_val, Val.label, word_int, value_of}
 use Rattle.types.specs.Stages.{Stage.went as table, Stage.stopped as no_table}
-use Rattle.program.specs.Reader.{byte, read_word}
+use Rattle.program.specs.Reader.{read_word}
 use Rattle.table.specs.Table.{Record, struct_at}
 use Rattle.table.specs.TableReader.{read_value, read_values, read_record, read_count, read_table, is_struct, refers, refers_each, references}
 use Rattle.table.specs.TableReader.{TableAnswer, table_number, table_answer, table_of_stream}

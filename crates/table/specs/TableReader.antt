@@ -7,7 +7,7 @@ use Rattle.types.specs.Stages.{Stage, Stage.went as table, Stage.stopped as no_t
 use Rattle.types.specs.Types.{Ty, Ty.int, Ty.nat, Ty.bool, Ty.ref}
 use Rattle.types.specs.TypeBytes.{word_end}
 use Rattle.types.specs.Values.{Val, Val.int_val, Val.nat_val, Val.bool_val, Val.label, value_of}
-use Rattle.program.specs.Reader.{Result, Result.ok, Result.bad, wrong_end, wrong_byte, then, pair, made, many, guard, whole, ranged, read_word}
+use Rattle.program.specs.Reader.{Result, Result.ok, Result.bad, wrong_end, then, pair, made, many, guard, whole, ranged, read_word}
 use Rattle.table.specs.Table.{Record, value_bytes, count_bytes, struct_at}
 
 -- a Bool is the number 0 or 1; any other value may be any number of four bytes
