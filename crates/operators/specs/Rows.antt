@@ -5,7 +5,7 @@ use Rattle.types.specs.Values.{Val, Val.int_val, Val.nat_val, Val.bool_val, Val.
 use Rattle.program.specs.Tree.{Op, Op.op_eq, Op.op_ne, Op.op_le, Op.op_ge, Op.op_lt, Op.op_gt, Op.op_mul, Op.op_div, Op.op_rem, Op.op_add, Op.op_sub}
 use Rattle.program.specs.Tree.{Op.op_and, Op.op_or}
 use Rattle.operators.specs.Apply.{Answer, Answer.value, Answer.outside, Answer.unfit, same_val}
-use Rattle.operators.specs.Apply.{answer, apply}
+use Rattle.operators.specs.Apply.{apply}
 use Rattle.operators.specs.Unfold.{applying}
 
 -- an operator, its operands, and what it must answer

@@ -1,6 +1,6 @@
 -- The quotient rounds toward minus infinity and the remainder takes the divisor's sign, and no other numbers do (02, 'Retarders below
 -- zero').
-use Rattle.std.specs.Prelude.{ℕ, zero, suc, ◌+◌, ◌-◌, ◌*◌, ◌/◌, ◌%◌, ◌<◌, ◌≤◌, ◌≡◌, refl, true, false, ◌⊎◌, ◌↔◌, ℤ, pos, negsuc, neg_ℤ, nat_abs, ◌+ℤ◌, ◌-ℤ◌, ◌*ℤ◌, ◌≤ℤ◌}
+use Rattle.std.specs.Prelude.{ℕ, zero, suc, ◌+◌, ◌-◌, ◌*◌, ◌/◌, ◌%◌, ◌<◌, ◌≡◌, refl, true, false, ◌⊎◌, ◌↔◌, ℤ, pos, negsuc, neg_ℤ, nat_abs, ◌+ℤ◌, ◌-ℤ◌, ◌*ℤ◌, ◌≤ℤ◌}
 use Rattle.std.proofs.Common.{arith, mod-lt, mul-suc, mul_comm, le-div_iff_mul-le, div-lt_iff_lt-mul, le_antisymm, sym, ap, ◌∙◌, true≢false, inl, inr, leb→le, le→leb, lt-ltb, le-ltb}
 use Rattle.std.proofs.Math.Nat.{div-add-mod, mul-add-div, div-eq_of_lt, div-eq_of_lt-le}
 use Rattle.std.proofs.Math.Dec.{leb-zero, leb-suc-zero, leb-suc-suc}
