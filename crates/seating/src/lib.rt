@@ -1,6 +1,7 @@
 // What an entry on images does before it acts (01, 'Numbers from the input'): a program image is admitted into short room (1 to 8), and a machine
 // is seated in lent memory beside it, here the one that a table image begins with (9 to 12).
 #![tactic(auto)]
+
 ghost use Rattle.std.specs.Prelude.{◌≡◌, ◌*◌, ◌≤◌, length};
 ghost use Rattle.types.specs.Limits.{max_structs, max_params, table_blocks, max_instances};
 ghost use Rattle.block.specs.Block.{payload_size};
