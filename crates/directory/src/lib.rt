@@ -1,5 +1,6 @@
 // The step directory (01, 'Names, types, commands'). What it holds, and how it stands in lent memory, is defined in specs/.
 #![tactic(auto)]
+
 pub mod rows;
 
 // A step: its struct and name, the place of its first command in the list, and how many it has.

@@ -2,10 +2,10 @@
 -- and whether names and types are right, as numbers: 0, or the lower of 7 and 8. Types stand as their bytes. The locals of a
 -- step are two numbers whose digits to the base 256 are, for each local, 1 more than its type while it lives, and 1 once it was
 -- declared. SizeFactsLaws (6), ExprFactsLaws and BodyFactsLaws (7 and 8) tie these to the conditions of 01.
-use Rattle.std.specs.Prelude.{ℕ, zero, suc, ◌+◌, ◌*◌, ◌-◌, ◌/◌, ◌%◌, ◌^◌, max, Bool, true, false, ◌&&◌, List, [], ◌∷◌, length, get_or, ltb, leb, eqb}
+use Rattle.std.specs.Prelude.{ℕ, suc, ◌+◌, ◌*◌, ◌-◌, ◌/◌, ◌%◌, ◌^◌, max, Bool, true, false, ◌&&◌, List, [], ◌∷◌, length, get_or, ltb, leb, eqb}
 use Rattle.types.specs.Limits.{max_params}
 use Rattle.types.specs.Numbers.{wrong_names, wrong_types}
-use Rattle.types.specs.Types.{Ty, struct_code, code}
+use Rattle.types.specs.Types.{struct_code, code}
 use Rattle.program.specs.Tree.{Var, Var.par, Var.loc, Op, Expr, Expr.inv, Expr.make, Expr.path, Expr.int_lit, Expr.nat_lit, Expr.bool_lit, Expr.null}
 use Rattle.program.specs.Tree.{Expr.self, Expr.op, Exprs, Exprs.none, Exprs.more, Stmt, Stmt.when, Stmt.declare, Stmt.update, Stmt.create, Stmts}
 use Rattle.program.specs.Tree.{Stmts.end, Stmts.next}

@@ -1,6 +1,6 @@
 -- What a checker totals up over a program in one walk over its stream (01, numbers 6 to 8): steps, commands, depth, faults, the step
 -- directory, and the items of the schedule; and the number that comes of it. Laws are in ProgramFactsLaws.
-use Rattle.std.specs.Prelude.{ℕ, zero, suc, ◌+◌, ◌*◌, max, Bool, true, false, not, ◌||◌, List, [], ◌∷◌, ◌++◌, length, ltb, eqb}
+use Rattle.std.specs.Prelude.{ℕ, zero, suc, ◌+◌, max, Bool, true, false, not, ◌||◌, List, [], ◌∷◌, ◌++◌, length, ltb, eqb}
 use Rattle.types.specs.Limits.{max_params, step_commands, max_commands, max_depth, schedule_items}
 use Rattle.types.specs.Types.{Ty, code}
 use Rattle.program.specs.Tree.{Item, Item.call, Item.call_in, Item.fix, Items, Items.stop, Items.item, Step, Program}

@@ -1,5 +1,6 @@
 // What a checker computes of expressions and statements, by functions on values (01, numbers 6 to 8).
 #![tactic(auto)]
+
 pub mod digits;
 pub mod expression;
 pub mod fault;

@@ -1,9 +1,9 @@
 -- Sizes and heights stay below the bytes that the tree takes in the stream (for 01, number 6: they are counted past every limit).
-use Rattle.std.specs.Prelude.{ℕ, suc, ◌+◌, ◌≤◌, max, List, length}
+use Rattle.std.specs.Prelude.{◌≤◌, length}
 use Rattle.std.proofs.Common.{arith, length-append}
 use Rattle.program.specs.Tree.{Expr, Expr.inv, Expr.make, Expr.path, Expr.int_lit, Expr.nat_lit, Expr.bool_lit, Expr.null, Expr.self, Expr.op, Exprs}
-use Rattle.program.specs.Tree.{Exprs.none, Exprs.more, Stmt, Stmt.when, Stmt.declare, Stmt.update, Stmt.create, Stmts, Stmts.end, Stmts.next, size}
-use Rattle.program.specs.Encoding.{enc_word, enc_path, enc_expr, enc_exprs, enc_stmt, enc_stmts}
+use Rattle.program.specs.Tree.{Exprs.none, Exprs.more, Stmt, Stmt.when, Stmt.declare, Stmt.update, Stmt.create, Stmts, Stmts.end, Stmts.next}
+use Rattle.program.specs.Encoding.{enc_path, enc_expr, enc_exprs, enc_stmt, enc_stmts}
 use Rattle.commands.specs.Sizes.{expr_size, args_size, stmt_size, body_size}
 use Rattle.commands.specs.Depth.{peak, peaks, stmt_growth, growth, stmt_height, height}
 

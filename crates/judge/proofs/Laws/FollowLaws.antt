@@ -1,9 +1,8 @@
 -- Laws of statements, arguments and items in a row (01, numbers 6 to 8): none before others and none behind them changes nothing, and
 -- which of them are taken together first does not matter. So they can be totalled up from the first on.
-use Rattle.std.specs.Prelude.{ℕ, suc, ◌+◌, ◌≤◌, ◌<◌, max, Bool, true, false, ◌≡◌, List, eqb, ltb}
+use Rattle.std.specs.Prelude.{ℕ, suc, ◌+◌, ◌≤◌, max, Bool, true, false, ◌≡◌, List, eqb, ltb}
 use Rattle.std.proofs.Common.{arith, sym, ◌∙◌, eqb-true, ltb-true, ltb-false}
 use Rattle.std.proofs.Math.Path.{refl}
-use Rattle.std.proofs.lemmas.Bool.{eqb-false}
 use Rattle.program.specs.Tree.{Expr, Exprs}
 use Rattle.program.specs.Tree.{Exprs.none, Exprs.more, Stmt, Stmt.when, Stmt.declare, Stmt.update, Stmt.create, Stmts, Stmts.end, Stmts.next}
 use Rattle.commands.proofs.Laws.DepthLaws.{peak_pos}
@@ -11,8 +10,8 @@ use Rattle.judge.specs.declared.Facts.{Facts}
 use Rattle.judge.specs.declared.Scope.{Scope}
 use Rattle.judge.specs.declared.Done.{Done}
 use Rattle.judge.specs.ProgramFacts.{Planned, plan, joined}
-use Rattle.judge.specs.Facts.{facts, demand, negated, combined, travelled, no_args, argued, appended, constructed, expr_facts, args_facts}
-use Rattle.judge.specs.Facts.{worst, result, nothing, branched, declared, updated, created, followed, stmt_facts, body_facts}
+use Rattle.judge.specs.Facts.{facts, demand, no_args, argued, appended, expr_facts, args_facts}
+use Rattle.judge.specs.Facts.{worst, nothing, branched, declared, updated, created, followed, stmt_facts, body_facts}
 use Rattle.judge.proofs.Laws.SizeFactsLaws.{expr_facts_peak}
 
 -- the worse of two faults, by which of them are there

@@ -1,5 +1,5 @@
 -- What is totalled up over steps: 7 where a name is wrong or stands twice in a struct, else 8 where a type is (01, numbers 7 and 8).
-use Rattle.std.specs.Prelude.{ℕ, suc, ◌+◌, ◌≤◌, ◌<◌, Bool, true, false, not, ◌&&◌, ◌||◌, ◌≡◌, refl, length, get_or, eqb}
+use Rattle.std.specs.Prelude.{ℕ, suc, ◌≤◌, Bool, true, false, not, ◌&&◌, ◌||◌, ◌≡◌, refl, length, get_or, eqb}
 use Rattle.std.proofs.Common.{arith, ◌∙◌, sym}
 use Rattle.std.proofs.Math.Bool.{and-true, and-false, and_assoc}
 use mathlib.Core.List.{List, [], ◌∷◌}
@@ -13,7 +13,7 @@ use Rattle.commands.specs.Names.{names_of_steps as names}
 use Rattle.commands.specs.Decide.{every, member, distinct}
 use Rattle.commands.specs.Decide.NamesDecide.{body_named, steps_named}
 use Rattle.commands.specs.Decide.TypingDecide.{body_typed, steps_typed}
-use Rattle.judge.specs.Facts.{named, no_locals, body_facts}
+use Rattle.judge.specs.Facts.{no_locals, body_facts}
 use Rattle.judge.specs.Verdicts.{Says, Tables}
 use Rattle.judge.proofs.Laws.FaultLaws.{says_as, says_both, says_named}
 use Rattle.judge.proofs.Laws.BodyFactsLaws.{step_says}

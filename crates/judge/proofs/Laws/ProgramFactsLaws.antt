@@ -10,7 +10,6 @@ use Rattle.types.specs.Limits.{max_structs, step_commands, max_commands, max_dep
 use Rattle.program.specs.Tree.{Item, Item.call, Item.call_in, Item.fix, Items, Items.stop, Items.item, Step, Program}
 use Rattle.program.specs.Counts.{All, Few, CountsItem, CountsItems, CountsStep, CountsSchedule, Counts}
 use Rattle.commands.specs.Context.{context}
-use Rattle.commands.specs.Commands.{commands}
 use Rattle.commands.specs.Sizes.{body_size}
 use Rattle.commands.proofs.Laws.SizeLaws.{body_length, program_size_is}
 use Rattle.commands.specs.Depth.{height}

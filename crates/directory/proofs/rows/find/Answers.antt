@@ -1,5 +1,5 @@
 -- `rows::find` meets its contract. The loop's invariant: the first row of all is the first of those from i on. The measure is the rows left.
-use Rattle.std.proofs.Common.{◌-◌, ◌≤◌, arith, ◌≡◌, refl, ap, sym, ◌∙◌}
+use Rattle.std.proofs.Common.{◌-◌, arith, ◌≡◌, refl, ap, sym, ◌∙◌}
 use Rattle.directory.specs.Rows.{sought}
 use Rattle.directory.proofs.FindLaws.{find_end, find_at, find_on}
 use Rattle.directory.proofs.rows.find.Goals as goal

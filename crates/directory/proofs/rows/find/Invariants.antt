@@ -1,4 +1,4 @@
-use Rattle.std.proofs.Common.{◌-◌, ◌≤◌, ◌≡◌, ◌∙◌}
+use Rattle.std.proofs.Common.{◌-◌, ◌≤◌, ◌≡◌}
 use Rattle.directory.specs.Directory.{find_row}
 use Rattle.directory.specs.Rows.{rows_from}
 use Rattle.directory.proofs.rows.find.Given as goal

@@ -1,5 +1,5 @@
 -- `rows::there` meets its contract.
-use Rattle.std.proofs.Common.{◌≡◌, sym, ◌∙◌}
+use Rattle.std.proofs.Common.{sym, ◌∙◌}
 use Rattle.directory.proofs.FindLaws.{there_nowhere, there_here}
 use Rattle.directory.proofs.rows.there.Goals as goal
 
