@@ -1,6 +1,7 @@
 // The operators on words of four bytes, as the engine holds values: each contract is an equation with the definitions of the crate
 // `operators`.
 #![tactic(auto)]
+
 ghost use Rattle.std.specs.Prelude.{◌≡◌, ◌<◌, ◌≤◌, pos, T};
 ghost use Rattle.std.proofs.Math.Option.{some};
 ghost use Rattle.std.specs.Int.Signed.{mag, non_neg, shr_z};

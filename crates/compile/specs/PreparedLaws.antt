@@ -1,6 +1,6 @@
 -- An accepted program may be prepared (01, 'Table and turns'): its rows may be noted and its schedule laid flat, and together they prepare a run.
 use Rattle.std.specs.Prelude.{ℕ, ◌+◌, ◌≤◌, ◌≡◌, refl, List, ◌++◌}
-use Rattle.std.proofs.Common.{arith, sym, ◌∙◌}
+use Rattle.std.proofs.Common.{sym, ◌∙◌}
 use Rattle.types.specs.Limits.{max_structs, max_commands}
 use Rattle.program.specs.Counts.{All, Counts}
 use Rattle.program.specs.Reader.{Result.ok}

@@ -1,6 +1,7 @@
 // What a run prepares of an accepted program before a machine is seated (01, 'Table and turns'): where the commands of each step will stand in the
 // list, and the schedule laid flat.
 #![tactic(auto)]
+
 pub mod items;
 pub mod spans;
 

@@ -9,7 +9,7 @@ use Rattle.machine.specs.Published.{Sched}
 use Rattle.machine.specs.Machine.{Instance, Machine}
 use Rattle.sound.specs.Invariant.{Good}
 use Rattle.sound.specs.Firm.{Firm}
-use Rattle.layout.specs.Layout.{head, next_of, end_of, variable, operand}
+use Rattle.layout.specs.Layout.{head, next_of, end_of, operand}
 use Rattle.layout.specs.State.{State}
 use Rattle.memory.specs.Frame.{Bounded}
 use Rattle.memory.specs.Choose.{Kept, flags}

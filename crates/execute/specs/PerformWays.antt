@@ -1,5 +1,5 @@
 -- A command by its kind: what its function needs, and that its answer is the command's (01, 'Table and turns').
-use Rattle.std.specs.Prelude.{ℕ, suc, ◌+◌, ◌%◌, ◌<◌, ◌≤◌, ◌≡◌, refl, List, get_or}
+use Rattle.std.specs.Prelude.{ℕ, suc, ◌%◌, ◌<◌, ◌≤◌, ◌≡◌, refl, List, get_or}
 use Rattle.std.proofs.Common.{arith, subst, ◌∙◌}
 use Rattle.layout.specs.Layout.{head, head_end, height_of, next_of, end_of, operand}
 use Rattle.layout.specs.State.{State}

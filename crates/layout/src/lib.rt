@@ -1,6 +1,7 @@
 // The memory that a run is lent and the numbers of its machine (01, 'Table and turns'): how many numbers and cells an instance has, where
 // each of them stands, and the functions that read and write them. `specs/Layout.antt` and `specs/State.antt` define what is written here.
 #![tactic(auto)]
+
 pub mod codes;
 
 ghost use Rattle.std.specs.Prelude.{◌≡◌, ◌+◌, ◌*◌, ◌<◌, ◌≤◌, length, get_or};

@@ -1,19 +1,19 @@
 -- How many commands memory holds (02 §14): as many as the machine that it stands for.
-use Prim.Native.Nat.{ℕ, zero, suc, ◌+◌, ◌-◌, ◌<◌, ◌≤◌}
+use Prim.Native.Nat.{ℕ, suc, ◌+◌, ◌-◌, ◌<◌, ◌≤◌}
 use Rattle.std.proofs.Common.{arith, sym, ap, ap₂, subst, ◌∙◌, length-take, length-drop}
 use Rattle.std.proofs.Math.Numerals.{add-one}
 use Rattle.std.specs.Prelude.{◌≡◌, refl, List, [], ◌∷◌, map, length, get_or, take, drop}
 use Rattle.std.proofs.Math.Option.{some}
 use Rattle.std.proofs.Math.ListN.{get_elem?}
 use Rattle.std.proofs.lemmas.List.{length-map}
-use Rattle.commands.specs.Noted.{Note, erase}
+use Rattle.commands.specs.Noted.{erase}
 use Rattle.commands.specs.Coding.{words, command_word}
 use Rattle.machine.specs.Published.{Sched}
 use Rattle.machine.specs.Machine.{Instance, Machine}
 use Rattle.machine.specs.Measure.{total, codes}
 use Rattle.layout.specs.Layout.{head, next_of, end_of}
 use Rattle.layout.specs.State.{State, of_head}
-use Rattle.memory.specs.Stands.{note_words, Held, Stands}
+use Rattle.memory.specs.Stands.{Held, Stands}
 use Rattle.counting.specs.Counting.{commands_in}
 
 module _ (heads : List ℕ) (n l : ℕ) where

@@ -1,5 +1,5 @@
 -- A turn of a loop that copies one list into another (02 §14).
-use Rattle.std.specs.Prelude.{ℕ, suc, ◌+◌, ◌-◌, ◌<◌, ◌≤◌, ◌≡◌, refl, List, [], ◌∷◌, ◌++◌, length, get_or, set, take, drop}
+use Rattle.std.specs.Prelude.{ℕ, ◌+◌, ◌-◌, ◌<◌, ◌≤◌, ◌≡◌, List, [], ◌∷◌, ◌++◌, length, get_or, set, take, drop}
 use Rattle.std.proofs.Common.{arith, add-one, sym, ap, ◌∙◌, length-drop, length-take-le, take-suc}
 use Rattle.std.proofs.lemmas.List.Edits.{sets}
 use Rattle.types.proofs.Laws.ListLaws.{sets_whole}

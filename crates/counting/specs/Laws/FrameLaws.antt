@@ -1,5 +1,5 @@
 -- What one command leaves of memory as it was (02 §14): it writes in the rows of its actor and of the instance that it makes, and to one variable.
-use Rattle.std.specs.Prelude.{ℕ, suc, ◌+◌, ◌-◌, ◌*◌, ◌%◌, ◌<◌, ◌≤◌, ◌≡◌, Bool, List, get_or, set, drop, eqb}
+use Rattle.std.specs.Prelude.{ℕ, suc, ◌-◌, ◌*◌, ◌%◌, ◌<◌, ◌≤◌, ◌≡◌, Bool, List, get_or, drop, eqb}
 use Rattle.std.proofs.Common.{arith, sym, subst, ◌∙◌}
 use Rattle.std.proofs.Math.Path.{refl}
 use Rattle.std.proofs.Math.Bool.{true, false}
@@ -7,16 +7,15 @@ use Rattle.std.proofs.Math.ListN.{length, take, length-set, length-take}
 use Rattle.std.proofs.Math.Seq.{sets, length-sets, get_or-set_other}
 use Rattle.std.proofs.Math.Dec.{ltb}
 use borrow.Author.Tests.{ltb-true, lt-ltb, eq-eqb, ne_eqb}
-use Rattle.types.specs.Limits.{max_instances, max_depth, max_params, variables}
+use Rattle.types.specs.Limits.{max_instances, max_depth, max_params}
 use Rattle.operators.specs.declared.Answered.{Answered}
 use Rattle.operators.specs.declared.Answered.TheVariants.{Value, Outside, Unfit}
-use Rattle.operators.specs.Words.{apply_word}
-use Rattle.layout.specs.Layout.{head_size, struct_of, height_of, next_of, row_size, variable, stacked, cell, type_byte, operand, label_cell, new_head, going, holds, head}
-use Rattle.layout.specs.State.{State, with_heads, with_cells, times, unstable, refused, with_count, with_holding, with_from, of_head, of_cell, state_of}
-use Rattle.memory.specs.Act.{full, gone, pushed, height, after, top, beneath, do_push, do_this, do_not, do_if, answered, do_op, result_byte, do_rd, stored, written, written_to, do_wr, made, do_cons, perform, next_word, turned, counted, act}
+use Rattle.layout.specs.Layout.{head_size, struct_of, height_of, next_of, row_size, variable, stacked, cell, operand, label_cell, new_head, head}
+use Rattle.layout.specs.State.{State, times, refused, of_head, of_cell, state_of}
+use Rattle.memory.specs.Act.{full, gone, pushed, height, after, top, beneath, do_push, do_this, do_not, do_if, answered, do_op, do_rd, stored, written, written_to, do_wr, made, do_cons, perform, next_word, turned, act}
 use Rattle.memory.specs.Fit.{WrFit, Needed, Fit}
 use Rattle.memory.proofs.Laws.RowLaws.{sets_other, going_other, going_length}
-use Rattle.counting.specs.Framed.{InHead, InRow, Framed, Fitting, fresh_row, wr_kind, place_of, stored_at}
+use Rattle.counting.specs.Framed.{Framed, Fitting, fresh_row, wr_kind, place_of, stored_at}
 
 -- whichever a test says
 pick : (t : Bool) (P : State → Type 0) {a b : State} → P a → P b → P (elim t [ true ↦ a | false ↦ b ])

@@ -1,9 +1,8 @@
 -- A command keeps the struct of every instance (000's rules for commands), so that a Bool parameter stays one (02 §14).
-use Rattle.std.specs.Prelude.{ℕ, ◌≡◌, refl, List, [], ◌∷◌, ◌++◌, set}
-use Rattle.std.proofs.Common.{subst, sym, ap, ◌∙◌}
+use Rattle.std.specs.Prelude.{ℕ, ◌≡◌, refl, List, set}
+use Rattle.std.proofs.Common.{subst, ap, ◌∙◌}
 use Rattle.std.proofs.Math.Option.{some}
 use Rattle.std.proofs.Math.ListN.{get_elem?}
-use Rattle.types.specs.Types.{Ty, Ty.bool}
 use Rattle.program.specs.Tree.{Program}
 use Rattle.commands.specs.Context.{params_of}
 use Rattle.commands.specs.Noted.{Note, now_written}

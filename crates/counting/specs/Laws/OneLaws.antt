@@ -1,8 +1,7 @@
 -- What one command does between keeping and putting back (02 §14), of memory that may be counted on.
-use Rattle.std.specs.Prelude.{ℕ, ◌+◌, ◌*◌, ◌<◌, ◌≤◌, ◌≡◌, refl, Bool, true, false, List, length, take, drop, ltb}
+use Rattle.std.specs.Prelude.{ℕ, ◌*◌, ◌<◌, ◌≤◌, ◌≡◌, refl, Bool, true, false, List, length, drop, ltb}
 use Rattle.std.proofs.Common.{arith, sym, ap, subst, ◌∙◌, length-drop, length-take-le, ltb-true}
 use Rattle.types.specs.Limits.{max_instances}
-use Rattle.machine.specs.Machine.{Machine}
 use Rattle.layout.specs.Layout.{head, head_size, end_of, row_size, holds}
 use Rattle.layout.specs.declared.Numbers.{Numbers}
 use Rattle.layout.specs.State.{State, state_of}

@@ -1,19 +1,17 @@
 -- Memory that holds the machine of a started step takes the commands of its holders (02 §14): it holds the next machine, or the command is refused and nothing
 -- but the number is new; there is no third case. Where nobody holds commands, the cell asked about tells the truth.
-use Rattle.std.specs.Prelude.{ℕ, zero, suc, ◌+◌, ◌*◌, ◌<◌, ◌≤◌, ◌≡◌, Bool, ◌⊎◌, List, [], ◌∷◌, length, get_or}
+use Rattle.std.specs.Prelude.{ℕ, zero, suc, ◌+◌, ◌<◌, ◌≡◌, Bool, List, [], ◌∷◌, length, get_or}
 use Rattle.std.proofs.Common.{arith, subst, ◌∙◌, inl, inr, eq-eqb, ne_eqb}
 use Rattle.std.proofs.Math.Path.{refl, sym, ap}
 use Rattle.std.proofs.Math.Bool.{true, false}
-use Rattle.std.proofs.Math.Option.{Option, none, some}
+use Rattle.std.proofs.Math.Option.{some}
 use Rattle.std.proofs.Math.ListN.{get_elem?}
 use Rattle.types.specs.Types.{Ty, Ty.int, Ty.bool}
-use Rattle.types.specs.Values.{Val, Val.bool_val, word}
+use Rattle.types.specs.Values.{Val.bool_val, word}
 use Rattle.program.specs.Tree.{Program}
 use Rattle.commands.specs.Context.{params_of}
 use Rattle.commands.specs.Noted.{Note}
-use Rattle.machine.specs.Published.{lookup}
 use Rattle.machine.specs.Machine.{Instance, Machine, Out, Out.next, Out.refused, Out.stuck, acting, command_of, command_at, command}
-use Rattle.machine.specs.Measure.{codes}
 use Rattle.machine.proofs.Laws.MeasureLaws.{command_shortens}
 use Rattle.run.specs.Holders.{holds_code}
 use Rattle.run.proofs.Laws.TurnLaws.{none_listed, holders_length}
@@ -39,7 +37,7 @@ use Rattle.counts.specs.Tally.{Kind, Kind.ends, Kind.stops, value_in, value_at, 
 use Rattle.counts.proofs.Laws.TallySteps.{from_command, tally_steps}
 use Rattle.counting.specs.declared.count.Asked.{Asked}
 use Rattle.counting.specs.declared.count.Tally.{Tally}
-use Rattle.counting.specs.Counting.{commands_in, AnyPlace, Truth, Stood, tallied, rest_tally, count_of, Tallies, Follows}
+use Rattle.counting.specs.Counting.{commands_in, AnyPlace, Stood, tallied, rest_tally, count_of, Tallies}
 use Rattle.counting.specs.Laws.CommandLaws.{commands_same}
 use Rattle.counting.specs.Laws.KeepsLaws.{command_keeps, truth_kept}
 

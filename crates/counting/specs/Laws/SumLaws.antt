@@ -5,13 +5,12 @@ use Rattle.std.proofs.Math.Numerals.{add-one}
 use Rattle.std.proofs.Math.Nat.{zero-add}
 use Rattle.std.specs.Prelude.{◌≡◌, Bool, List, [], ◌∷◌}
 use Rattle.std.proofs.Math.Path.{refl, sym, ap}
-use Rattle.std.proofs.Common.{ap₂, subst, ◌∙◌}
+use Rattle.std.proofs.Common.{◌∙◌}
 use Rattle.std.proofs.Math.Bool.{true, false}
 use Rattle.std.proofs.Math.ListN.{length}
 use Rattle.types.specs.Limits.{nat_end}
 use Rattle.program.specs.Tree.{Program}
 use Rattle.machine.specs.Machine.{Machine}
-use Rattle.machine.specs.Measure.{codes}
 use Rattle.run.specs.Turns.{labels_from}
 use Rattle.layout.specs.Layout.{holds}
 use Rattle.layout.specs.State.{State}
@@ -19,12 +18,11 @@ use Rattle.memory.specs.Choose.{flags}
 use Rattle.memory.proofs.Laws.ChooseStands.{flags_same}
 use Rattle.counts.specs.Numbers.{sum}
 use Rattle.counts.specs.Tally.{Kind, Kind.ends, Kind.stops, value_at, at_rest, holding, tally_by, tally}
-use Rattle.counts.specs.CountEntry.{most_counted}
 use Rattle.counts.proofs.Laws.TallySteps.{from_command, tally_steps}
 use Rattle.counts.proofs.Laws.FitLaws.{counts_fit}
 use Rattle.counting.specs.declared.count.Asked.{Asked}
 use Rattle.counting.specs.declared.count.Tally.{Tally}
-use Rattle.counting.specs.Counting.{commands_in, Stood, Countable, tallied, count_of, Tallies, Follows, later, Sums}
+use Rattle.counting.specs.Counting.{Stood, Countable, tallied, count_of, Tallies, Follows, later, Sums}
 use Rattle.counting.specs.Laws.CommandLaws.{commands_same}
 use Rattle.counting.specs.Laws.StoodLaws.{holders_kept, idle_told}
 

@@ -1,5 +1,5 @@
 -- `copy` meets its contract. The loop's invariant: the first i cells are copied.
-use Rattle.std.proofs.Common.{ℕ, ◌-◌, ◌≤◌, arith, ◌≡◌, refl, ap, ◌∙◌}
+use Rattle.std.proofs.Common.{ℕ, arith, ◌≡◌, refl, ap, ◌∙◌}
 use Rattle.execute_construct.specs.ConsWays.{copied, copied_same, copied_more}
 use Rattle.execute_construct.proofs.copy.Goals as goal
 

@@ -1,4 +1,4 @@
-use Rattle.std.proofs.Common.{◌-◌, ◌≤◌, ◌≡◌, ◌∙◌}
+use Rattle.std.proofs.Common.{◌-◌, ◌≤◌, ◌≡◌}
 use Rattle.execute_construct.specs.ConsWays.{copied}
 use Rattle.execute_construct.proofs.copy.Given as goal
 

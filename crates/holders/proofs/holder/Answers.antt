@@ -1,8 +1,8 @@
 use mir.Val.{bool_byte}
 use Rattle.std.proofs.Common.{ℕ, suc, ◌+◌, ◌-◌, ◌<◌, ◌≤◌, ◌≡◌, List, get_or, ap, sym, ◌∙◌, arith}
 use Rattle.holders.specs.declared.Record.{Record}
-use Rattle.holders.specs.Records.{idle, wrapped, search, holder_in}
-use Rattle.holders.specs.RecordsWays.{wrapped_here, wrapped_past, search_here, search_past}
+use Rattle.holders.specs.Records.{idle, wrapped, search}
+use Rattle.holders.proofs.RecordsWays.{wrapped_here, wrapped_past, search_here, search_past}
 use Rattle.holders.proofs.holder.Goals as goal
 use Rattle.holders.proofs.holder.Goals.{then-n-l, else-n-l}
 

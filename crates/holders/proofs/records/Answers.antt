@@ -1,7 +1,7 @@
 -- `holders::records` meets its contract. The loop's invariant: the array begins with the records of the first l instances. The measure is how
 -- many are left.
-use Rattle.std.proofs.Common.{◌≤◌, ◌-◌, ◌≡◌, arith}
-use Rattle.holders.specs.RecordsLaws.{recorded_none, recorded_more}
+use Rattle.std.proofs.Common.{◌≡◌, arith}
+use Rattle.holders.proofs.RecordsLaws.{recorded_none, recorded_more}
 use Rattle.holders.proofs.records.Goals as goal
 
 pub loop-l-init : goal.loop-l-init

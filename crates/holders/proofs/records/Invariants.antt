@@ -1,4 +1,4 @@
-use Rattle.std.proofs.Common.{◌≤◌, ◌-◌, ◌≡◌}
+use Rattle.std.proofs.Common.{◌≤◌, ◌-◌}
 use Rattle.holders.specs.Records.{Recorded}
 use Rattle.holders.proofs.records.Given as goal
 

@@ -1,6 +1,6 @@
 -- Behind a command as many instances hold commands as before it, or one fewer where the actor has none left (01, 'Table and turns').
-use Rattle.std.specs.Prelude.{ℕ, zero, suc, ◌+◌, ◌≡◌, refl, Bool, true, false, List, [], ◌∷◌, ◌++◌, map, length, set}
-use Rattle.std.proofs.Common.{ap, sym, ◌∙◌, subst, inl, inr, append-nil, arith}
+use Rattle.std.specs.Prelude.{ℕ, zero, suc, ◌+◌, ◌≡◌, refl, Bool, true, false, List, [], ◌∷◌, ◌++◌, length, set}
+use Rattle.std.proofs.Common.{ap, ◌∙◌, subst, inl, inr, append-nil, arith}
 use Rattle.std.proofs.Math.Option.{some}
 use Rattle.std.proofs.Math.ListN.{get_elem?}
 use Rattle.program.specs.Tree.{Program}
@@ -13,7 +13,7 @@ use Rattle.run.proofs.Laws.TurnLaws.{holders_length}
 use Rattle.sound.proofs.Laws.ElemLaws.{none_some}
 use Rattle.layout.specs.State.{bit}
 use Rattle.memory.specs.Choose.{fewer}
-use Rattle.sound.proofs.Laws.FlagLaws.{Idle, Flagged, flags_behind}
+use Rattle.sound.proofs.Laws.FlagLaws.{Idle, flags_behind}
 
 -- how many are true
 abbrev trues : List Bool → ℕ

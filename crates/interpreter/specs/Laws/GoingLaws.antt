@@ -5,8 +5,7 @@ use Rattle.std.proofs.Common.{ap, sym, ◌∙◌, subst, true≢false, arith}
 use Rattle.std.proofs.lemmas.Bool.{false≢true}
 use borrow.Author.Tests.{eq-eqb, ne_eqb, eqb-true, eqb-false, le-leb, lt-leb, leb-true, leb-false}
 use Rattle.types.specs.Limits.{max_instances}
-use Rattle.program.specs.Tree.{Program}
-use Rattle.machine.specs.Machine.{Machine, command}
+use Rattle.machine.specs.Machine.{command}
 use Rattle.machine.specs.Stops.{out_of_turns}
 use Rattle.layout.specs.Layout.{holds}
 use Rattle.layout.specs.State.{State, state_of}
@@ -16,15 +15,14 @@ use Rattle.memory.specs.Choose.{picked}
 use Rattle.memory.proofs.Laws.ChooseStands.{picks}
 use Rattle.holders.specs.declared.Record.{Record}
 use Rattle.holders.specs.Records.{Recorded, holder_in}
-use Rattle.holders.specs.RecordsLaws.{picked_in}
+use Rattle.holders.proofs.RecordsLaws.{picked_in}
 use Rattle.engine.specs.declared.Machine.{Machine as Engine}
 use Rattle.interpreter.specs.declared.turns.Going.{Going}
-use Rattle.interpreter.specs.Ready.{Ready}
 use Rattle.interpreter.specs.Running.{Turned, Turned.turned, Turned.failed, Begun, Gone, Come}
 use Rattle.interpreter.specs.Laws.TurnLaws.{picked_fits, turned_by}
 use Rattle.interpreter.specs.Laws.RunningLaws.{number_some, ends_lasting, ends_failed, taken_turn, runs_held}
 use Rattle.interpreter.specs.Laws.RecordLaws.{records_behind}
-use Rattle.interpreter.specs.Going.{rests, waits, going_at, behind, Takes, Due, memory_of, searched, Turning, Went, Passes}
+use Rattle.interpreter.specs.Going.{rests, waits, going_at, behind, Takes, memory_of, searched, Turning, Went, Passes}
 
 -- The cases of a definition ----------------------------------------------------------
 

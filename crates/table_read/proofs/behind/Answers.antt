@@ -1,5 +1,5 @@
 -- `behind` meets its contract: a record is refused, the stream goes on, a reference is wrong, the table is right.
-use Rattle.std.proofs.Common.{ℕ, ◌<◌, ◌≡◌, arith, ◌∙◌, ap, not, refl, get_or}
+use Rattle.std.proofs.Common.{ℕ, ◌<◌, arith, ◌∙◌, ap, refl, get_or}
 use Rattle.table_read.specs.Told.{place_refusal}
 use Rattle.table_read.specs.Laws.TableWays.{Got, got, behind_refused, behind_more, behind_structs, behind_wrong, behind_right}
 use Rattle.table_read.proofs.behind.Goals as goal

@@ -1,7 +1,7 @@
 use Rattle.std.proofs.Common.{◌+◌, ◌<◌, length, arith}
 use Rattle.emit.specs.Laws.PartsLaws.{part_ready, part_same}
 use Rattle.compile.specs.WalkLaws.{one_room, one_wrote, item_in, call_one, call_in_one, fix_facts, fix_room, fix_ready, fix_end, fix_wrote}
-use Rattle.compile.specs.WalkLaws.{items_part, left_all, left_ready, left_next, left_none, FixFacts}
+use Rattle.compile.specs.WalkLaws.{items_part, left_all, left_ready, left_next, left_none}
 use Rattle.compile.proofs.items.+item_items.Goals as goal
 
 -- An item: a step of every struct ------------------------------------------------

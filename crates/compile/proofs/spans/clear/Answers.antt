@@ -1,6 +1,5 @@
 -- `spans::clear` meets its contract. The invariant: to clear the pairs that are left gives what is to come out. The measure is how many are left.
-use Rattle.std.proofs.Common.{◌+◌, ◌*◌, arith, ◌≡◌, refl, sym, ◌∙◌}
-use Rattle.compile.specs.Spans.{cleared}
+use Rattle.std.proofs.Common.{arith, refl, sym, ◌∙◌}
 use Rattle.compile.specs.SpansLaws.{cleared_none, cleared_one}
 use Rattle.compile.proofs.spans.clear.Goals as goal
 

@@ -1,4 +1,4 @@
-use Rattle.std.proofs.Common.{◌+◌, ◌*◌, ◌≡◌, ◌∙◌, length}
+use Rattle.std.proofs.Common.{◌+◌, ◌*◌, ◌≡◌, length}
 use Rattle.types.specs.Limits.{step_names}
 use Rattle.compile.specs.Spans.{cleared}
 use Rattle.compile.proofs.spans.clear.Given as goal

@@ -1,7 +1,7 @@
 -- `spans::note` meets its contract. The invariant: the rows from i on are noted. The measure is how many are not.
-use Rattle.std.proofs.Common.{◌-◌, ◌≤◌, arith, ◌≡◌, refl, sym, ◌∙◌}
+use Rattle.std.proofs.Common.{◌-◌, arith, refl, sym, ◌∙◌}
 use Rattle.directory.proofs.RowsLaws.{rows_each}
-use Rattle.compile.specs.Spans.{RowHeld, noted}
+use Rattle.compile.specs.Spans.{RowHeld}
 use Rattle.compile.specs.SpansLaws.{noted_none, noted_all, noted_more}
 use Rattle.compile.proofs.spans.note.Goals as goal
 

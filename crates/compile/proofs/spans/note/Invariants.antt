@@ -1,4 +1,4 @@
-use Rattle.std.proofs.Common.{◌-◌, ◌≤◌, ◌≡◌, ◌∙◌, length}
+use Rattle.std.proofs.Common.{◌-◌, ◌≤◌, ◌≡◌, length}
 use Rattle.directory.specs.Rows.{rows_from}
 use Rattle.compile.specs.Spans.{noted}
 use Rattle.compile.proofs.spans.note.Given as goal

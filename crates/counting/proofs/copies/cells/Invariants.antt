@@ -1,4 +1,4 @@
-use Rattle.std.proofs.Common.{◌≤◌, ◌-◌, ◌+◌, ◌≡◌, ◌∙◌, length, set, take}
+use Rattle.std.proofs.Common.{◌≤◌, ◌-◌, ◌≡◌, length, take}
 use Rattle.std.proofs.lemmas.List.Edits.{sets}
 use Rattle.counting.proofs.copies.cells.Given as goal
 

@@ -1,5 +1,5 @@
 -- `copies::numbers` meets its contract. The loop's invariant: the first i are written. The measure is what is left of src.
-use Rattle.std.proofs.Common.{◌≤◌, ◌-◌, ◌+◌, ◌≡◌, refl, ◌∙◌, ap, length, length-set, set, take, get_or, take_all, arith}
+use Rattle.std.proofs.Common.{◌+◌, refl, ◌∙◌, ap, length-set, set, get_or, take_all, arith}
 use Rattle.std.proofs.lemmas.List.Edits.{sets}
 use Rattle.counting.specs.Laws.CopyLaws.{copy_turn}
 use Rattle.counting.proofs.copies.numbers.Goals as goal

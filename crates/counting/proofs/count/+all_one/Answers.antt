@@ -7,7 +7,7 @@ use Rattle.counting.specs.Framed.{restored_heads, restored_cells}
 use Rattle.counting.specs.Counting.{count_of, Follows}
 use Rattle.counting.specs.Laws.StoodLaws.{asked_within, rest_told}
 use Rattle.counting.specs.Laws.SumLaws.{sums_first, sums_more, sums_fit, sums_last}
-use Rattle.counting.specs.Laws.OneLaws.{saves_sized, follows_same, row_below, row_within, fresh_low, idle_follows, one_fits, one_counted, after_heads_long, after_cells_long}
+use Rattle.counting.specs.Laws.OneLaws.{saves_sized, follows_same, row_below, fresh_low, idle_follows, one_fits, one_counted, after_heads_long, after_cells_long}
 use Rattle.counting.specs.Laws.OneLaws.{put_back, stop_untouched, stop_follows, next_fewer, next_countable, next_follows}
 use Rattle.counting.proofs.count.+all_one.Goals as goal
 

@@ -1,6 +1,6 @@
 -- `count::commands` meets its contract. The loop's invariant: those counted and those still to be counted are all. The measure is how many instances
 -- are left.
-use Rattle.std.proofs.Common.{◌≤◌, ◌+◌, ◌-◌, ◌*◌, ◌≡◌, ap, ◌∙◌, arith}
+use Rattle.std.proofs.Common.{◌-◌, ◌≡◌, ap, arith}
 use Rattle.counting.specs.Counting.{commands_in}
 use Rattle.counting.specs.Laws.CommandLaws.{commands_done, commands_next}
 use Rattle.counting.proofs.count.commands.Goals as goal

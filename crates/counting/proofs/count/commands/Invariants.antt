@@ -1,4 +1,4 @@
-use Rattle.std.proofs.Common.{◌≤◌, ◌+◌, ◌-◌, ◌*◌, ◌≡◌, ◌∙◌}
+use Rattle.std.proofs.Common.{◌≤◌, ◌+◌, ◌-◌, ◌*◌, ◌≡◌}
 use Rattle.layout.specs.Layout.{head_end}
 use Rattle.counting.specs.Counting.{commands_in}
 use Rattle.counting.proofs.count.commands.Given as goal

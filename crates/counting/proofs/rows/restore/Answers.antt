@@ -1,5 +1,5 @@
 -- `rows::restore` meets its contract: four copies and a store.
-use Rattle.std.proofs.Common.{ℕ, List, arith, ◌*◌, ◌≡◌, ap, ◌∙◌, length-set, set}
+use Rattle.std.proofs.Common.{ℕ, List, arith, ◌*◌, ap, ◌∙◌, set}
 use Rattle.std.proofs.lemmas.List.Edits.{sets}
 use Rattle.layout.specs.Layout.{head_size, row_size}
 use Rattle.counting.proofs.rows.restore.Goals as goal

@@ -15,8 +15,7 @@ word_is c = ap (λ (n : ℕ). get_or c.args.list.now n 0) c.head-next.ensures.0
 
 pub returns-then-w-ne-WR : goal.returns-then-w-ne-WR
 returns-then-w-ne-WR c =
-    let f = c.requires.2 in
-    (
+    let f = c.requires.2 in (
       not_stored _ _ _ _ c.requires (λ e. c.if-w-ne-WR.true (ap (λ (w : ℕ). w % 256) (word_is (goal.at.returns-then-w-ne-WR c).After-head-next) ∙ e)),
       omega (arith, f.chosen, f.few, f.cells_long),
     )
@@ -41,8 +40,7 @@ returns c =
     let is_wr : word_at k % 256 ≡ wr_kind = sym (ap (λ (w : ℕ). w % 256) (word_is k)) ∙ c.if-w-ne-WR.false in
     let w = stored_fits _ _ _ _ c.requires is_wr in let f = c.requires.2 in let l = c.args.l in
     let a = c.operand.ensures.0 ∙ ap (λ (n : ℕ). operand (get_or c.args.cells.now (stacked l (n - 1)) 0)) c.head-h.ensures.0 in
-    let b = c.operand-2.ensures.0 ∙ ap operand (word_is k) in
-    (
+    let b = c.operand-2.ensures.0 ∙ ap operand (word_is k) in (
       ap₂ (λ (x : ℕ) (y : ℕ). row_size * x + y) a b ∙ wr_stored _ _ _ _ c.requires is_wr,
       omega (arith, a, b, w.target, w.var, f.few, f.cells_long),
     )

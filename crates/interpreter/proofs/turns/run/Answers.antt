@@ -1,6 +1,6 @@
 -- `interpreter::turns::run` meets its contract. The loop's invariant: a run that has come to where the loop begins has come to where it stands.
 -- The measure is the turns that are left.
-use Rattle.std.proofs.Common.{◌≡◌, refl, ◌∙◌}
+use Rattle.std.proofs.Common.{refl, ◌∙◌}
 use Rattle.holders.specs.Records.{idle}
 use Rattle.interpreter.specs.Laws.RunWays.{begun_standing, stays_on, stays_rows, stays_turning, passed_standing}
 use Rattle.interpreter.specs.Laws.RunWays.{passed_over, passed_over_less, passed_more, passed_more_less}
@@ -34,13 +34,12 @@ loop-next-smaller-then-next-eq0 c =
     c.settle-moved.result idle c.going_at-next-then-next-eq0.ensures
 
 pub loop-next-preserved-then-next-eq0 : goal.loop-next-preserved-then-next-eq0
-loop-next-preserved-then-next-eq0 c =
-    (
-      c.settle-moved.auto.heads ∙ c.take_turns-next.auto.heads ∙ c.loop-next.invariant.0,
-      c.take_turns-next.auto.cells ∙ c.loop-next.invariant.1,
-      λ z s. passed_more (c.loop-next.invariant.2 z s) c.loop-next-test.true c.take_turns-next.ensures c.if-next-eq0.true
-          c.settle-moved.result idle c.going_at-next-then-next-eq0.ensures (c.settle-moved.ensures _),
-    )
+loop-next-preserved-then-next-eq0 c = (
+  c.settle-moved.auto.heads ∙ c.take_turns-next.auto.heads ∙ c.loop-next.invariant.0,
+  c.take_turns-next.auto.cells ∙ c.loop-next.invariant.1,
+  λ z s. passed_more (c.loop-next.invariant.2 z s) c.loop-next-test.true c.take_turns-next.ensures c.if-next-eq0.true
+      c.settle-moved.result idle c.going_at-next-then-next-eq0.ensures (c.settle-moved.ensures _),
+)
 
 pub loop-next-smaller : goal.loop-next-smaller
 loop-next-smaller c =
@@ -48,12 +47,11 @@ loop-next-smaller c =
     passed_over_less stays c.loop-next-test.true c.take_turns-next.ensures
 
 pub loop-next-preserved : goal.loop-next-preserved
-loop-next-preserved c =
-    (
-      c.take_turns-next.auto.heads ∙ c.loop-next.invariant.0,
-      c.take_turns-next.auto.cells ∙ c.loop-next.invariant.1,
-      λ z s. passed_over (c.loop-next.invariant.2 z s) c.loop-next-test.true c.take_turns-next.ensures c.if-next-eq0.false,
-    )
+loop-next-preserved c = (
+  c.take_turns-next.auto.heads ∙ c.loop-next.invariant.0,
+  c.take_turns-next.auto.cells ∙ c.loop-next.invariant.1,
+  λ z s. passed_over (c.loop-next.invariant.2 z s) c.loop-next-test.true c.take_turns-next.ensures c.if-next-eq0.false,
+)
 
 pub returns : goal.returns
 returns c =

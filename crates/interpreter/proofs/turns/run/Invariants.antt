@@ -1,4 +1,4 @@
-use Rattle.std.proofs.Common.{◌≡◌, ◌∙◌, length}
+use Rattle.std.proofs.Common.{◌≡◌, length}
 use Rattle.layout.specs.State.{State}
 use Rattle.interpreter.specs.Going.{memory_of}
 use Rattle.interpreter.specs.Laws.GoingLaws.{turns_left}

@@ -1,6 +1,6 @@
 -- `begin::begin_all` meets its contract. The loop's invariant: what is left to do with the heads as they are comes to what there was to do
 -- at first. The measure is how many instances are left.
-use Rattle.std.proofs.Common.{◌≤◌, ◌-◌, ◌≡◌, refl, sym, ap, ◌∙◌, arith, length}
+use Rattle.std.proofs.Common.{◌-◌, ◌≡◌, refl, sym, ap, ◌∙◌, arith}
 use Rattle.memory.specs.Move.{begin_all}
 use Rattle.memory.proofs.Laws.BeginLaws.{one_length}
 use Rattle.scheduler.specs.BeginWays.{row_of, one_rows, all_done, all_next}

@@ -1,4 +1,4 @@
-use Rattle.std.proofs.Common.{◌≤◌, ◌-◌, ◌≡◌, ◌∙◌, length}
+use Rattle.std.proofs.Common.{◌≤◌, ◌-◌, ◌≡◌, length}
 use Rattle.memory.specs.Move.{begin_all}
 use Rattle.scheduler.specs.Ready.{Rows}
 use Rattle.scheduler.proofs.begin.begin_all.Given as goal

@@ -1,7 +1,6 @@
 -- `count::holding` meets its contract. The loop's invariant: those counted and those still to be counted are all. The measure is how
 -- many instances are left.
-use Rattle.std.proofs.Common.{◌≤◌, ◌+◌, ◌-◌, ◌≡◌, sym, ap, ◌∙◌, arith}
-use Rattle.layout.specs.Layout.{holds}
+use Rattle.std.proofs.Common.{◌-◌, ◌≡◌, sym, ap, ◌∙◌, arith}
 use Rattle.memory.specs.Choose.{holding}
 use Rattle.scheduler.specs.CountWays.{count_done, count_here, count_past}
 use Rattle.scheduler.proofs.count.holding.Goals as goal

@@ -1,4 +1,4 @@
-use Rattle.std.proofs.Common.{◌≤◌, ◌+◌, ◌-◌, ◌≡◌, ◌∙◌}
+use Rattle.std.proofs.Common.{◌≤◌, ◌+◌, ◌-◌, ◌≡◌}
 use Rattle.memory.specs.Choose.{holding}
 use Rattle.scheduler.proofs.count.holding.Given as goal
 

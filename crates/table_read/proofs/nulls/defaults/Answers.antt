@@ -1,6 +1,6 @@
 -- `nulls::defaults` meets its contract. The loop's invariant: what is left to lay makes of the cells what laying all does. The measure is how many are
 -- left.
-use Rattle.std.proofs.Common.{◌≤◌, ◌+◌, ◌-◌, ◌≡◌, ◌∙◌, refl, arith, length, length-set}
+use Rattle.std.proofs.Common.{◌∙◌, refl, arith, length-set}
 use Rattle.table_read.specs.Laws.NullWays.{defaults_begin, defaults_turn, defaults_end}
 use Rattle.table_read.proofs.nulls.defaults.Goals as goal
 

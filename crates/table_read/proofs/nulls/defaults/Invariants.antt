@@ -1,4 +1,4 @@
-use Rattle.std.proofs.Common.{◌≤◌, ◌+◌, ◌-◌, ◌≡◌, ◌∙◌, length}
+use Rattle.std.proofs.Common.{◌≤◌, ◌+◌, ◌-◌, ◌≡◌, length}
 use Rattle.table_read.specs.Laws.NullWays.{defaults_laid}
 use Rattle.table_read.proofs.nulls.defaults.Given as goal
 

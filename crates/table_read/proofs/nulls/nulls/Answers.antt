@@ -1,6 +1,6 @@
 -- `nulls::nulls` meets its contract. The loop's invariant: the null instances that are left make of memory what all of them do. The measure is how many
 -- are left.
-use Rattle.std.proofs.Common.{◌≤◌, ◌-◌, ◌≡◌, ◌∙◌, refl, arith, length}
+use Rattle.std.proofs.Common.{◌≡◌, ◌∙◌, refl, arith, length}
 use Rattle.table_read.specs.Laws.NullWays.{heads_turn, rows_turn, heads_end, rows_end}
 use Rattle.table_read.proofs.nulls.nulls.Goals as goal
 

@@ -1,4 +1,4 @@
-use Rattle.std.proofs.Common.{◌≤◌, ◌-◌, ◌≡◌, ◌∙◌, length}
+use Rattle.std.proofs.Common.{◌≤◌, ◌-◌, ◌≡◌, length}
 use Rattle.table_read.specs.Params.{lists_of}
 use Rattle.table_read.specs.Laid.{heads_laid, rows_laid, null_records}
 use Rattle.table_read.specs.Laws.NullWays.{nulls_from}

@@ -1,6 +1,6 @@
 -- `reading::records` meets its contract. The loop's invariant: what the records that are left come to, all of them do. The measure is how many are
 -- left.
-use Rattle.std.proofs.Common.{◌≤◌, ◌-◌, ◌≡◌, ◌∙◌, refl, arith, length}
+use Rattle.std.proofs.Common.{◌∙◌, refl, arith, length}
 use Rattle.table_read.specs.Laws.RecordWays.{records_begin, records_turn, records_refused, records_end}
 use Rattle.table_read.proofs.reading.records.Goals as goal
 

@@ -1,4 +1,4 @@
-use Rattle.std.proofs.Common.{◌≤◌, ◌-◌, ◌≡◌, ◌∙◌, length}
+use Rattle.std.proofs.Common.{◌≤◌, ◌-◌, ◌≡◌, length}
 use Rattle.table_read.specs.Laws.RecordWays.{RecordsGo}
 use Rattle.table_read.proofs.reading.records.Given as goal
 

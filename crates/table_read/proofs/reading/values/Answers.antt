@@ -1,5 +1,5 @@
 -- `reading::values` meets its contract. The loop's invariant: what the values that are left come to, all of them do. The measure is how many are left.
-use Rattle.std.proofs.Common.{◌≤◌, ◌-◌, ◌≡◌, ◌∙◌, refl, arith}
+use Rattle.std.proofs.Common.{◌∙◌, refl, arith}
 use Rattle.table_read.specs.Laws.ValuesWays.{values_begin, values_turn, values_refused, values_end}
 use Rattle.table_read.proofs.reading.values.Goals as goal
 

@@ -1,5 +1,5 @@
 -- `refer::row_refers` meets its contract. The loop's invariant: the cells that are left decide. The measure is how many are left.
-use Rattle.std.proofs.Common.{◌≤◌, ◌+◌, ◌-◌, ◌≡◌, ◌∙◌, sym, arith}
+use Rattle.std.proofs.Common.{◌∙◌, sym, arith}
 use Rattle.table_read.specs.Laws.ReferWays.{row_begin, row_turn, row_stop, row_end}
 use Rattle.table_read.proofs.refer.row_refers.Goals as goal
 

@@ -1,4 +1,4 @@
-use Rattle.std.proofs.Common.{◌≤◌, ◌+◌, ◌-◌, ◌≡◌, ◌∙◌}
+use Rattle.std.proofs.Common.{◌≤◌, ◌+◌, ◌-◌, ◌≡◌}
 use Rattle.table_read.specs.Refer.{row_refers}
 use Rattle.table_read.proofs.refer.row_refers.Given as goal
 

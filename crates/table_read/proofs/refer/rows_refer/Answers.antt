@@ -1,5 +1,5 @@
 -- `refer::rows_refer` meets its contract. The loop's invariant: the instances that are left decide. The measure is how many are left.
-use Rattle.std.proofs.Common.{◌<◌, ◌≤◌, ◌-◌, ◌≡◌, ◌∙◌, refl, arith, length}
+use Rattle.std.proofs.Common.{◌<◌, ◌∙◌, refl, arith, length}
 use Rattle.table_read.specs.Laws.ReferWays.{rows_turn, rows_stop, rows_end}
 use Rattle.table_read.proofs.refer.rows_refer.Goals as goal
 

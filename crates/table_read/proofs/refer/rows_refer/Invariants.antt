@@ -1,4 +1,4 @@
-use Rattle.std.proofs.Common.{◌<◌, ◌≤◌, ◌-◌, ◌≡◌, ◌∙◌}
+use Rattle.std.proofs.Common.{◌≤◌, ◌-◌, ◌≡◌}
 use Rattle.table_read.specs.Refer.{rows_refer}
 use Rattle.table_read.proofs.refer.rows_refer.Given as goal
 

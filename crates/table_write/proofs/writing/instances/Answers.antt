@@ -1,6 +1,6 @@
 -- `writing::instances` meets its contract. The loop's invariant: the instances that are left make of the output, and of the place, what all of them do.
 -- The measure is how many are left.
-use Rattle.std.proofs.Common.{◌<◌, ◌≤◌, ◌+◌, ◌-◌, ◌*◌, ◌≡◌, ◌∙◌, refl, arith, length, length-set}
+use Rattle.std.proofs.Common.{◌<◌, ◌≤◌, ◌∙◌, refl, arith, length, length-set}
 use Rattle.types.specs.Limits.{max_params}
 use Rattle.table_write.specs.WrittenWays.{rows_place, rows_turn, rows_end}
 use Rattle.table_write.proofs.writing.instances.Goals as goal

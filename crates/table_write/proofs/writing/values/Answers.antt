@@ -1,6 +1,6 @@
 -- `writing::values` meets its contract. The loop's invariant: what is left to write makes of the output what writing all does. The measure is how many
 -- cells are left.
-use Rattle.std.proofs.Common.{◌≤◌, ◌-◌, ◌≡◌, ◌∙◌, refl, arith}
+use Rattle.std.proofs.Common.{◌∙◌, refl, arith}
 use Rattle.table_write.specs.WrittenWays.{cells_begin, cells_turn, cells_end}
 use Rattle.table_write.proofs.writing.values.Goals as goal
 

@@ -20,7 +20,7 @@ use Rattle.run.proofs.Laws.RoundLaws.{kept}
 use Rattle.memory.proofs.Laws.ChooseStands.{holding_round, flags_length, flags_at}
 use Rattle.holders.specs.declared.Record.{Record}
 use Rattle.holders.specs.Records.{idle, wrapped, search, Recorded, holder_in}
-use Rattle.holders.specs.RecordsWays.{wrapped_here, wrapped_past, search_here, search_past}
+use Rattle.holders.proofs.RecordsWays.{wrapped_here, wrapped_past, search_here, search_past}
 
 -- Flags ------------------------------------------------------------------------------
 

@@ -1,0 +1,2 @@
+pub mod RecordsWays
+pub mod RecordsLaws
