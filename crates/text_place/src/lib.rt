@@ -2,6 +2,7 @@
 // which no derivation goes on, the text's end where the text ends too early; the first place where declarations have no numbers, the token at which the pass
 // over names stops, the text's end where there are too many counts or bytes. 02 asks for no place.
 #![tactic(auto)]
+
 ghost use Rattle.std.specs.Prelude.{◌≡◌, [], ◌≤◌, ◌<◌, length};
 ghost use Rattle.source.specs.Source.{max_text};
 ghost use Rattle.tokens.specs.Marking.{marks};
