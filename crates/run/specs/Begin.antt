@@ -1,10 +1,10 @@
 -- The machine that a run begins with (000, definition 6; 01, 'Table and turns'; 02, 'Turns that go round'), and the table that a machine stands
 -- at.
-use Rattle.std.specs.Prelude.{ℕ, suc, List, [], ◌∷◌, ◌++◌, map, length, drop}
+use Rattle.std.specs.Prelude.{ℕ, suc, List, [], ◌∷◌, ◌++◌, map, drop}
 use Rattle.types.specs.Types.{Ty}
 use Rattle.types.specs.Values.{Val, default}
 use Rattle.program.specs.Tree.{Program}
-use Rattle.table.specs.Table.{Record, enc_table}
+use Rattle.table.specs.Table.{Record}
 use Rattle.machine.specs.Published.{Env, Env.env, fresh_env, of_items, structs}
 use Rattle.machine.specs.Machine.{Instance, Machine, machine}
 

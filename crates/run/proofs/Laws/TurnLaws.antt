@@ -11,7 +11,7 @@ use Rattle.types.specs.Values.{Val}
 use Rattle.machine.specs.Published.{Sched, Env, Inst, Inst.inst, State.state, Idle}
 use Rattle.machine.specs.Rules.{Done}
 use Rattle.machine.specs.Machine.{Instance, Machine}
-use Rattle.machine.specs.Represents.{RepresentsAll, Represents}
+use Rattle.machine.specs.Represents.{RepresentsAll}
 use Rattle.machine.proofs.Laws.RepresentsLaws.{Still}
 use Rattle.run.specs.Turns.{labels_from, round_from, chosen, holds_coms, holders_of}
 use Rattle.run.specs.Holders.{holds_code, flag, flags, holders, none_of, due}
