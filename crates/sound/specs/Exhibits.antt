@@ -2,15 +2,13 @@
 -- passes through a machine whose next command lacks what it needs, and jams there.
 use Rattle.std.specs.Prelude.{ℕ, ◌≡◌, false, List, [], ◌∷◌, pos}
 use Rattle.std.proofs.Math.Option.{some}
-use mathlib.Core.List.Memᴰ
 use Rattle.std.proofs.Math.ListN.{get_elem?}
-use Rattle.types.specs.Types.{Ty, Ty.int, Ty.bool, Ty.ref}
+use Rattle.types.specs.Types.{Ty.int}
 use Rattle.types.specs.Values.{Val.int_val, Val.bool_val}
 use Rattle.program.specs.Tree.{Program}
 use Rattle.program.specs.Counts.{Counts}
 use Rattle.commands.specs.Noted.{Note, Note.n_this, Note.n_not, Note.n_wr}
 use Rattle.commands.specs.Numbers.{breach_number}
-use Rattle.commands.proofs.Exhibits.{program}
 use Rattle.table.specs.Table.{Record, TableRight}
 use Rattle.machine.specs.Published.{fresh_env}
 use Rattle.machine.specs.Machine.{tagged, Instance, Machine}

@@ -1,6 +1,6 @@
 -- Which schedules a run can leave of its program's, and whose commands are held (01, 'Table and turns'; 000, rules InitG to FixTerm).
 use Rattle.std.specs.Prelude.{ℕ, ◌≡◌, ◌⊎◌, List, [], drop}
-use Rattle.std.proofs.Math.Option.{Option, some}
+use Rattle.std.proofs.Math.Option.{some}
 use Rattle.std.proofs.Math.ListN.{get_elem?}
 use Rattle.program.specs.Tree.{Stmts, Program}
 use Rattle.commands.specs.Context.{context}

@@ -1,6 +1,6 @@
 -- Demand 3 is not empty, locals and operators (01, 'The words of demand 3'): a run of an accepted program that reads a parameter of
 -- an instance of another struct, adds, declares a local, reads it, updates it and compares it, and ends with 0.
-use Rattle.std.specs.Prelude.{ℕ, ◌≡◌, refl, true, false, List, [], ◌∷◌, length, drop, replicate, pos}
+use Rattle.std.specs.Prelude.{ℕ, ◌≡◌, refl, true, false, List, [], ◌∷◌, drop, replicate, pos}
 use Rattle.std.proofs.Common.{arith}
 use Rattle.std.proofs.Math.Option.{Option, none, some}
 use Rattle.types.specs.Limits.{first_local}
@@ -22,8 +22,8 @@ use Rattle.commands.specs.Accepted.{Accepted}
 use Rattle.sound.specs.NeverStuck.{Demand3}
 use Rattle.sound.proofs.Laws.NeverStuckLaws.{demand3}
 use Rattle.run.proofs.Laws.RunAgreesVisits.{run_visits}
-use Rattle.sound.specs.After.{onward, act_on, after, after_visited}
-use Rattle.sound.proofs.Exhibits.ExhibitTurns.{by_stream, code_at, stack_at, value_at, came_stopped, Turn, at_act, turn_at}
+use Rattle.sound.specs.After.{onward, act_on, after}
+use Rattle.sound.proofs.Exhibits.ExhibitTurns.{by_stream, code_at, stack_at, value_at, came_stopped, Turn, turn_at}
 
 -- The run --------------------------------------------------------------------------
 

@@ -1,12 +1,12 @@
 -- A machine with the invariant is in one step (01, 'Table and turns'): the step call that runs was started, and its holders hold rests of it.
-use Rattle.std.specs.Prelude.{ℕ, suc, ◌+◌, ◌≡◌, refl, ◌⊎◌, List, [], ◌∷◌, ◌++◌, drop}
-use Rattle.std.proofs.Common.{arith, ap, sym, ◌∙◌, subst, inl, inr, append-nil, drop-drop}
+use Rattle.std.specs.Prelude.{ℕ, ◌+◌, ◌≡◌, refl, ◌⊎◌, List, [], ◌++◌, drop}
+use Rattle.std.proofs.Common.{ap, sym, ◌∙◌, subst, inl, inr, append-nil, drop-drop}
 use Rattle.std.proofs.Math.Option.{Option, none, some}
 use Rattle.program.specs.Tree.{Stmts, Program}
 use Rattle.commands.specs.Context.{Ctx, context}
 use Rattle.commands.specs.Noted.{Note, noted}
 use Rattle.commands.specs.Tags.{Tags, jump, Way, Way.start, Way.on, Way.over}
-use Rattle.machine.specs.Published.{StepCall, called, Sched}
+use Rattle.machine.specs.Published.{StepCall}
 use Rattle.machine.specs.Machine.{Instance, Machine}
 use Rattle.sound.specs.Started.{RestOf, OneStep}
 use Rattle.sound.specs.Invariant.{Job, Job.call, InJob, InJob.in_call, Passage, Place, Place.resting, Place.passing, Running, GoodAll, Good}

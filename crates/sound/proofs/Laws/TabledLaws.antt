@@ -1,6 +1,6 @@
 -- Through a run the null instances keep their defaults, and there are at most 256 instances of the program's structs
 -- (01, 'Table and turns').
-use Rattle.std.specs.Prelude.{ℕ, zero, suc, ◌+◌, ◌-◌, ◌<◌, ◌≤◌, ◌≡◌, refl, Bool, true, false, ◌⊎◌, set, ltb}
+use Rattle.std.specs.Prelude.{ℕ, ◌-◌, ◌<◌, ◌≤◌, ◌≡◌, refl, Bool, true, false, ◌⊎◌, set, ltb}
 use Rattle.std.proofs.Common.{arith, zero-add, ap, ◌∙◌, subst, inl, inr, length-set}
 use Rattle.std.proofs.Math.Decide.{ℕ_discrete}
 use Rattle.std.proofs.Math.Path.{sym}

@@ -10,7 +10,7 @@ use Rattle.machine.proofs.Laws.FromLaws.{command_from}
 use Rattle.machine.specs.Stops.{full, exceeded}
 use Rattle.run.specs.Turns.{round_from, chosen}
 use Rattle.run.specs.Holders.{flag, flags, holders, due}
-use Rattle.run.specs.Steps.{Steps, Steps.here, Steps.reads}
+use Rattle.run.specs.Steps.{Steps.here, Steps.reads}
 use Rattle.run.specs.Visits.{Acts, Acts.takes}
 use Rattle.run.proofs.Laws.Settles.{Rests.fails}
 use Rattle.run.proofs.Laws.RoundLaws.{kept, round_after, round_idle}
