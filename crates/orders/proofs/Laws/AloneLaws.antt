@@ -1,6 +1,6 @@
 -- A program with another schedule (02 §11): the rules of instances look at none, so orders and their freedom carry over; with the call of a step that some
 -- struct has as its schedule, an accepted program is accepted.
-use Rattle.std.specs.Prelude.{ℕ, zero, suc, ◌<◌, ◌≤◌, Bool, ◌⊎◌, length, get_or}
+use Rattle.std.specs.Prelude.{ℕ, zero, suc, ◌<◌, ◌≤◌, Bool, length, get_or}
 use Rattle.std.proofs.Common.{arith, sym, subst, ⊎_elim}
 use mathlib.Core.List.Memᴰ
 use mathlib.Core.List.{List, [], ◌∷◌, map, Memᴰ}

@@ -6,7 +6,7 @@ use Rattle.std.proofs.Math.ListN.{get_elem?}
 use Rattle.types.specs.Types.{Ty, Ty.ref}
 use Rattle.types.specs.Values.{Val, Val.label}
 use Rattle.program.specs.Tree.{Program}
-use Rattle.commands.specs.Noted.{Note, Note.n_rd, Note.n_wr, Note.n_get, Note.n_set, Note.n_cons, now_written}
+use Rattle.commands.specs.Noted.{Note, Note.n_wr, Note.n_cons, now_written}
 use Rattle.machine.specs.Published.{lookup, structs, arity}
 use Rattle.machine.specs.Machine.{Tagged, tagged, Instance, Machine, Out, Out.next, Out.refused, Out.stuck, with_written, acting, Source, command}
 use Rattle.machine.specs.Performed.{Reads, Reads.parameter, Reads.of_local, Writes, Writes.to_parameter, Writes.to_local, Performed, Performed.pushed}
@@ -49,35 +49,19 @@ module _ (p : Program) (firm : Firm p) (m : Machine) (l : ℕ) (i : Instance) (a
   reads_plan : (n : Note) {v q : ℕ} {o : ℕ → Source} {u : Ty} {χ : List Tagged} {j : Instance} {x : Val} {r : List Note} → i.code ≡ n ∷ r
       → Needs p m l i n → Reads n v o
       → i.stack ≡ tagged u (label q) ∷ χ → get_elem? m.instances q ≡ some j → lookup j.env v ≡ some x → Planned p m l i
-  reads_plan (n_rd k v) e need parameter s g f =
+  reads_plan n e need (parameter {k = k}) s g f =
       let (y, (χ', h), k', o) = need in (_, _, p_rd e s refl g f (omega (arith, firm.few k, k')) refl)
-  reads_plan (n_get t x) {q = q} e need of_local s g f =
+  reads_plan n {q = q} e need of_local s g f =
       let (y, (χ', h), (b, o), w) = need in
       let same : q ≡ l = label_is (ap (λ z. z.is) (top s h) ∙ o) in
       let z = some_is (sym (rw same at g) ∙ at) in
       (_, _, p_get e (rw same at s) refl (rw z at f))
-  reads_plan (Rattle.commands.specs.Noted.n_push _ _) {v = v} {q = q} {o = o} {u = u} {χ = χ} {j = j} {r = r} e need x10 s g f = elim x10 [ ]
-  reads_plan Rattle.commands.specs.Noted.n_this {v = v} {q = q} {o = o} {u = u} {χ = χ} {j = j} {r = r} e need x9 s g f = elim x9 [ ]
-  reads_plan Rattle.commands.specs.Noted.n_not {v = v} {q = q} {o = o} {u = u} {χ = χ} {j = j} {r = r} e need x10 s g f = elim x10 [ ]
-  reads_plan (n_wr _ _) {v = v} {q = q} {o = o} {u = u} {χ = χ} {j = j} {r = r} e need x13 s g f = elim x13 [ ]
-  reads_plan (n_set _ _ _) {v = v} {q = q} {o = o} {u = u} {χ = χ} {j = j} {r = r} e need x15 s g f = elim x15 [ ]
-  reads_plan (n_cons _) {v = v} {q = q} {o = o} {u = u} {χ = χ} {j = j} {r = r} e need x14 s g f = elim x14 [ ]
-  reads_plan (Rattle.commands.specs.Noted.n_op _) {v = v} {q = q} {o = o} {u = u} {χ = χ} {j = j} {r = r} e need x15 s g f = elim x15 [ ]
-  reads_plan (Rattle.commands.specs.Noted.n_if _) {v = v} {q = q} {o = o} {u = u} {χ = χ} {j = j} {r = r} e need x16 s g f = elim x16 [ ]
 
   -- a write that is dropped
   skips_plan : (n : Note) {v q : ℕ} {u : Ty} {y : Tagged} {χ : List Tagged} {j : Instance} {r : List Note} → i.code ≡ n ∷ r → Writes n v
       → i.stack ≡ tagged u (label q) ∷ y ∷ χ → get_elem? m.instances q ≡ some j → q < structs p → v < arity p j.struct → Planned p m l i
-  skips_plan (n_wr k v) e to_parameter s g z h = (_, _, p_skip e s refl g z h)
-  skips_plan (n_set d t x) {j = j} e to_local s g z h = absurd (omega (arith, firm.few j.struct, h))
-  skips_plan (Rattle.commands.specs.Noted.n_push _ _) {v = v} {q = q} {u = u} {y = y} {χ = χ} {j = j} {r = r} e x8 s g z h = elim x8 [ ]
-  skips_plan Rattle.commands.specs.Noted.n_this {v = v} {q = q} {u = u} {y = y} {χ = χ} {j = j} {r = r} e x7 s g z h = elim x7 [ ]
-  skips_plan Rattle.commands.specs.Noted.n_not {v = v} {q = q} {u = u} {y = y} {χ = χ} {j = j} {r = r} e x8 s g z h = elim x8 [ ]
-  skips_plan (n_rd _ _) {v = v} {q = q} {u = u} {y = y} {χ = χ} {j = j} {r = r} e x11 s g z h = elim x11 [ ]
-  skips_plan (n_get _ _) {v = v} {q = q} {u = u} {y = y} {χ = χ} {j = j} {r = r} e x12 s g z h = elim x12 [ ]
-  skips_plan (n_cons _) {v = v} {q = q} {u = u} {y = y} {χ = χ} {j = j} {r = r} e x12 s g z h = elim x12 [ ]
-  skips_plan (Rattle.commands.specs.Noted.n_op _) {v = v} {q = q} {u = u} {y = y} {χ = χ} {j = j} {r = r} e x13 s g z h = elim x13 [ ]
-  skips_plan (Rattle.commands.specs.Noted.n_if _) {v = v} {q = q} {u = u} {y = y} {χ = χ} {j = j} {r = r} e x14 s g z h = elim x14 [ ]
+  skips_plan n e to_parameter s g z h = (_, _, p_skip e s refl g z h)
+  skips_plan n {j = j} e to_local s g z h = absurd (omega (arith, firm.few j.struct, h))
 
   -- one to a parameter
   stores_plan : (k v : ℕ) {q : ℕ} {u : Ty} {y : Tagged} {χ : List Tagged} {j : Instance} {r : List Note} → i.code ≡ n_wr k v ∷ r
@@ -100,28 +84,20 @@ module _ (p : Program) (firm : Firm p) (m : Machine) (l : ℕ) (i : Instance) (a
   writes_plan : (n : Note) {v q : ℕ} {u : Ty} {y : Tagged} {χ : List Tagged} {j : Instance} {r : List Note} → i.code ≡ n ∷ r → Needs p m l i n → Writes n v
       → i.stack ≡ tagged u (label q) ∷ y ∷ χ → get_elem? m.instances q ≡ some j
       → (q < structs p → v < arity p j.struct → ⊥) → (v < arity p j.struct → lookup j.env v ≡ none → ⊥) → Planned p m l i
-  writes_plan (n_wr k v) {q = q} {j = j} e need to_parameter s g never some_value =
+  writes_plan n {q = q} {j = j} e need (to_parameter {k = k} {x = v}) s g never some_value =
       let (x, y, (χ, h), low, (b, o), w) = need in
       let is : y.is ≡ label q = ap (λ z. z.is) (top h s) in
       let same : j.struct ≡ k = reached k y g is o in
       let less : v < arity p j.struct = rw same low in
       stores_plan k v e s g less never some_value
-  writes_plan (n_set true t x) {q = q} e need to_local s g never some_value =
+  writes_plan n {q = q} e need (to_local {d = true}) s g never some_value =
       let (a, y, (χ, h), (b, o), w) = need in
       let same : q ≡ l = label_is (ap (λ z. z.is) (top s h) ∙ o) in
       (_, _, p_set e (rw same at s) refl)
-  writes_plan (n_set false t x) {q = q} e need to_local s g never some_value =
+  writes_plan n {q = q} e need (to_local {d = false}) s g never some_value =
       let (a, y, (χ, h), (b, o), w, z) = need in
       let same : q ≡ l = label_is (ap (λ z. z.is) (top s h) ∙ o) in
       (_, _, p_set e (rw same at s) refl)
-  writes_plan (Rattle.commands.specs.Noted.n_push _ _) {v = v} {q = q} {u = u} {y = y} {χ = χ} {j = j} {r = r} e need x9 s g never some_value = elim x9 [ ]
-  writes_plan Rattle.commands.specs.Noted.n_this {v = v} {q = q} {u = u} {y = y} {χ = χ} {j = j} {r = r} e need x8 s g never some_value = elim x8 [ ]
-  writes_plan Rattle.commands.specs.Noted.n_not {v = v} {q = q} {u = u} {y = y} {χ = χ} {j = j} {r = r} e need x9 s g never some_value = elim x9 [ ]
-  writes_plan (n_rd _ _) {v = v} {q = q} {u = u} {y = y} {χ = χ} {j = j} {r = r} e need x12 s g never some_value = elim x12 [ ]
-  writes_plan (n_get _ _) {v = v} {q = q} {u = u} {y = y} {χ = χ} {j = j} {r = r} e need x13 s g never some_value = elim x13 [ ]
-  writes_plan (n_cons _) {v = v} {q = q} {u = u} {y = y} {χ = χ} {j = j} {r = r} e need x13 s g never some_value = elim x13 [ ]
-  writes_plan (Rattle.commands.specs.Noted.n_op _) {v = v} {q = q} {u = u} {y = y} {χ = χ} {j = j} {r = r} e need x14 s g never some_value = elim x14 [ ]
-  writes_plan (Rattle.commands.specs.Noted.n_if _) {v = v} {q = q} {u = u} {y = y} {χ = χ} {j = j} {r = r} e need x15 s g never some_value = elim x15 [ ]
 
   -- a command that gives a next machine and is no cons
   way_plan : (n : Note) (r : List Note) (o : Out) (m' : Machine) → i.code ≡ n ∷ r → Needs p m l i n → ((k : ℕ) → n ≡ n_cons k → ⊥) → o ≡ next m'

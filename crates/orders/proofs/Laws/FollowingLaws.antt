@@ -1,5 +1,5 @@
 -- Following an order by computation is exact enough to show that it is apart, and where it leads (02 §11). The exhibits use it.
-use Rattle.std.specs.Prelude.{ℕ, ◌+◌, ◌<◌, ◌≤◌, ◌≡◌, refl, Bool, true, false, ◌&&◌, ◌⊎◌, eqb}
+use Rattle.std.specs.Prelude.{ℕ, ◌<◌, ◌≤◌, ◌≡◌, refl, Bool, true, false, ◌&&◌, eqb}
 use Rattle.std.proofs.Common.{arith, sym, subst, ◌∙◌, ⊎_elim, le-ltb, eq-eqb, eqb-true}
 use Rattle.std.proofs.Math.Path.{ap}
 use Rattle.std.proofs.Math.Option.{Option, some}

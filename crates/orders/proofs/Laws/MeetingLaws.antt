@@ -19,7 +19,7 @@ use Rattle.sound.proofs.Laws.CommandKept.{Refused}
 use Rattle.sound.proofs.Laws.NeverStuckLaws.{taken_kept}
 use Rattle.orders.specs.Orders.{Turns}
 use Rattle.orders.specs.Touches.{Use, Use.reading, Use.writing, Touches, Does}
-use Rattle.orders.specs.Deeds.{Deed, Deed.nothing, Deed.reads, Deed.writes, Act, Clash}
+use Rattle.orders.specs.Deeds.{Deed, Deed.nothing, Deed.reads, Act, Clash}
 use Rattle.orders.specs.Following.{code_deed, deed_at, deeds_of}
 use Rattle.orders.specs.Marks.{clean}
 use Rattle.orders.specs.Meeting.{Meeting}

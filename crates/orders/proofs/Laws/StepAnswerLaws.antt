@@ -1,6 +1,6 @@
 -- What is answered of a step on a table (02 §11): 'apart' exactly where the order of zero bytes completes the step and touches apart, and then the
 -- step is free of order; two instances that are told do meet; and following always comes to an end.
-use Rattle.std.specs.Prelude.{ℕ, zero, suc, ◌+◌, Bool, ◌||◌, ◌⊎◌, ◌↔◌, length, replicate}
+use Rattle.std.specs.Prelude.{ℕ, zero, suc, Bool, ◌||◌, ◌↔◌, length, replicate}
 use Rattle.std.proofs.Common.{arith, sym, subst, ◌∙◌}
 use Rattle.std.proofs.Math.Path.{◌≡◌, refl, ap}
 use Rattle.std.proofs.Math.Bool.{true, false}
