@@ -3,16 +3,15 @@ use Rattle.std.specs.Prelude.{ℕ, ◌≡◌, refl, true, false, List, [], ◌�
 use Rattle.types.specs.Types.{Ty.bool, Ty.ref}
 use Rattle.types.specs.Values.{Val.bool_val, Val.label}
 use Rattle.program.specs.Tree.{Var.par, Expr.bool_lit, Exprs.none, Stmt.update, Stmt.create, Stmts.end, Stmts.next, Item.call, Items.stop, Items.item, Program}
-use Rattle.commands.specs.Noted.{Note, Note.n_push, Note.n_this, Note.n_rd, Note.n_wr, Note.n_cons}
-use Rattle.table.specs.Table.{Record}
+use Rattle.commands.specs.Noted.{Note.n_push, Note.n_this, Note.n_rd, Note.n_wr, Note.n_cons}
 use Rattle.machine.specs.Published.{Sched.done, fresh_env}
-use Rattle.machine.specs.Machine.{Instance, Machine, machine}
+use Rattle.machine.specs.Machine.{Machine, machine}
 use Rattle.machine.specs.Measure.{total, codes}
 use Rattle.run.specs.Begin.{resting}
 use Rattle.run.proofs.Rows.RowsOpen.{running}
 use Rattle.counts.specs.Numbers.{sum}
 use Rattle.counts.specs.Tally.{Kind.ends, Kind.stops, value_in, one_if, at_rest, at_refusal, after, tally_by, tally_with, tally}
-use Rattle.orders.specs.StepAnswer.{alone, step_machine}
+use Rattle.orders.specs.StepAnswer.{step_machine}
 use Rattle.counts.specs.CountEntry.{count_machine}
 
 -- the three numbers

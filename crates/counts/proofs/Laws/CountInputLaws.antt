@@ -20,7 +20,7 @@ use Rattle.commands.proofs.Decide.DecideLaws.{member_reflects}
 use Rattle.commands.specs.Decide.NamesDecide.{stepped}
 use Rattle.commands.specs.Names.{names_of_steps, Had}
 use Rattle.verdict.specs.Verdict.{listed}
-use Rattle.verdict.specs.ProgramInput.{Reads, AcceptedImage, reads_of}
+use Rattle.verdict.specs.ProgramInput.{AcceptedImage, reads_of}
 use Rattle.verdict.proofs.ProgramInputLaws.{one_program}
 use Rattle.table.specs.Table.{Record, struct_at}
 use Rattle.table.specs.TableReader.{table_of_stream}
@@ -34,7 +34,7 @@ use Rattle.counts.specs.Counts.{Counts}
 use Rattle.counts.specs.Tally.{Kind, Kind.ends, Kind.stops, tally}
 use Rattle.counts.specs.CountEntry.{most_counted, type_in, type_at, is_bool, started_commands, of_question, with_question, count_begins, Counted, counted}
 use Rattle.counts.specs.CountEntry.{count_machine, count_by, count, count_list}
-use Rattle.counts.specs.CountInput.{Declares, ReadsBoth, NoStep, NoPlace, NotBool, ManyCommands, question_order, count_order, Countable}
+use Rattle.counts.specs.CountInput.{Declares, ReadsBoth, NoStep, NoPlace, NotBool, ManyCommands, count_order, Countable}
 use Rattle.counts.proofs.Laws.CountLaws.{step_counts, step_fits}
 
 -- The tests --------------------------------------------------------------------------------

@@ -1,6 +1,6 @@
 -- A step started on a table (02 §14): the counting gives the three numbers of the definition over the published rules, and they fit 32 bits.
-use Rattle.std.specs.Prelude.{ℕ, ◌+◌, ◌<◌, ◌≤◌, ◌≡◌, refl, Bool, true, false, List}
-use Rattle.std.proofs.Common.{arith, subst, ◌∙◌}
+use Rattle.std.specs.Prelude.{ℕ, ◌+◌, ◌<◌, ◌≤◌, ◌≡◌, Bool, true, false, List}
+use Rattle.std.proofs.Common.{arith, subst}
 use Rattle.types.specs.Limits.{nat_end}
 use Rattle.program.specs.Tree.{Items, Program}
 use Rattle.table.specs.Table.{Record}
@@ -8,7 +8,7 @@ use Rattle.machine.specs.Published.{called, of_item, of_items, State}
 use Rattle.machine.specs.Measure.{codes, share, share_of}
 use Rattle.machine.proofs.Laws.MeasureLaws.{moved_codes}
 use Rattle.run.specs.Begin.{first_instances, begin}
-use Rattle.orders.specs.StepAnswer.{scheduled, alone, step_state, step_machine}
+use Rattle.orders.specs.StepAnswer.{scheduled, alone, step_state}
 use Rattle.orders.proofs.Laws.AloneLaws.{ordered_alike}
 use Rattle.orders.proofs.Laws.StepAnswerLaws.{still_first, state_alone, step_stands, begin_moves}
 use Rattle.counts.specs.Counts.{Ends, Stops, Counts}

@@ -1,6 +1,6 @@
 -- The three counts together are at most n factorial where n commands are held, so that 12 commands give numbers of 32 bits (02 §14).
 use Rattle.std.specs.Prelude.{ℕ, zero, suc, ◌+◌, ◌-◌, ◌*◌, ◌<◌, ◌≤◌, ◌≡◌, refl, Bool, List, [], ◌∷◌, length}
-use Rattle.std.proofs.Common.{arith, suc-mul, zero-mul, mul-le-mul_right, le_trans, sym, ap, subst, ◌∙◌}
+use Rattle.std.proofs.Common.{arith, suc-mul, zero-mul, mul-le-mul_right, sym, subst}
 use Rattle.std.proofs.Math.Nat.{one-le-mul}
 use Rattle.std.proofs.Math.Bool.{true, false}
 use Rattle.std.proofs.Math.Option.{Option, none, some}

@@ -1,7 +1,7 @@
 -- The counting by its steps (02 §14): with any fuel that is enough it comes to the same, so that a machine's count is the sum over its holders of the
 -- counts of the machines that their commands lead to.
 use Prim.Native.Nat.{ℕ, zero, suc, ◌+◌, ◌<◌}
-use Rattle.std.proofs.Common.{arith, ap, ap₂}
+use Rattle.std.proofs.Common.{arith, ap₂}
 use Rattle.std.specs.Prelude.{◌≡◌, refl, List, [], ◌∷◌}
 use Rattle.program.specs.Tree.{Program}
 use Rattle.machine.specs.Machine.{Machine, Out, Out.next, Out.refused, Out.stuck, command}
