@@ -1,7 +1,6 @@
 -- The words of two structs' steps off their bytes: an update, an if with a declaration in it, a construct with a null; no step.
 use Rattle.std.specs.Prelude.{ℕ, ◌≡◌, refl, List, [], ◌∷◌}
 use Rattle.types.specs.Values.{word_int, value_of}
-use Rattle.commands.specs.Coding.{words}
 use Rattle.commands.specs.ProgramWords.{structs_words}
 use Rattle.emit.specs.Written.{next_of, code_of, structs_at}
 use Rattle.program.specs.Unfold.{steps}

@@ -1,5 +1,6 @@
 // The commands of a program's steps in the lent list, in one walk (01, 'Names, types, commands').
 #![tactic(auto)]
+
 ghost use Rattle.std.specs.Prelude.{length};
 ghost use Rattle.program.specs.Reader.{read_steps};
 ghost use Rattle.commands.specs.ProgramWords.{steps_words, structs_words};

@@ -32,7 +32,7 @@ use Rattle.read_program.specs.Whole.{place_of, schedule_place, ReadListed}
 use Rattle.load.specs.declared.Loaded.{Loaded}
 use Rattle.load.specs.declared.Load.TheVariants.{Program as Accepts, Refused as Refuses}
 use Rattle.load.specs.Load.{loaded_of, loaded_by, loaded, load_told, TablesHeld, RowsHeld, Held, Admitted}
-use Rattle.load.specs.StreamLaws.{Behind, numbered, passed, counted, here, plan_is, listed_is}
+use Rattle.load.specs.StreamLaws.{Behind, passed, counted, here, plan_is, listed_is}
 
 -- A stream -----------------------------------------------------------------------------------
 

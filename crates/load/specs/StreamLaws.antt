@@ -1,6 +1,6 @@
 -- What the reader of a program answers gives the program that is checked (01, 4 to 8 of 'Numbers from the input'), its counts, and the tables of its
 -- parameters.
-use Prim.Native.Nat.{ℕ, zero, suc, ◌+◌, ◌*◌, ◌<◌, ◌≤◌}
+use Prim.Native.Nat.{ℕ, zero, suc, ◌*◌, ◌<◌, ◌≤◌}
 use Rattle.std.proofs.Common.{arith, ◌∙◌, take_at}
 use Rattle.std.proofs.Math.Path.{◌≡◌, refl, ap, sym}
 use mathlib.Core.List.{List, [], ◌∷◌, ◌++◌, map}

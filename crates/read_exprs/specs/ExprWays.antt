@@ -6,7 +6,7 @@ use Rattle.std.proofs.Math.Path.{refl, ap}
 use Rattle.types.specs.Limits.{max_params}
 use Rattle.types.specs.Types.{struct_code, code}
 use Rattle.program.specs.Tree.{Op, Expr, Expr.inv, Expr.make, Expr.op, Exprs, Exprs.none, Exprs.more}
-use Rattle.program.specs.Reader.{Result, Result.ok, Result.bad, then, pair, made, many, lookup, Form.form_op, form, byte, opened, ranged, read_word}
+use Rattle.program.specs.Reader.{Result, Result.ok, Result.bad, then, pair, made, many, lookup, Form.form_op, form, opened, ranged, read_word}
 use Rattle.program.specs.Reader.{read_type, read_path, read_make, rule_expr, read_expr}
 use Rattle.answers.specs.Answers.{Answer, Answer.value, Answer.refused, answer, after as made_of}
 use Rattle.answers.specs.AnswerLaws.{answer_is, answer_stops, answer_made, row_none, row_stop, row_more}

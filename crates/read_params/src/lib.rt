@@ -1,5 +1,6 @@
 // The parameter lists of the structs, read into two tables (01, 'Program stream').
 #![tactic(auto)]
+
 ghost use Rattle.std.specs.Prelude.{◌≡◌, [], ◌∷◌, ◌+◌, ◌*◌, ◌≤◌, length};
 ghost use Rattle.std.proofs.lemmas.List.Edits.{sets};
 ghost use Rattle.judge.specs.ProgramFacts.{row};

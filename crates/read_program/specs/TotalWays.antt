@@ -1,5 +1,5 @@
 -- Each way through the readers of steps (01, 'Program stream', and numbers 4 to 8).
-use Rattle.std.specs.Prelude.{ℕ, suc, ◌+◌, ◌-◌, ◌<◌, ◌≤◌, ◌≡◌, Bool, true, false, not, length}
+use Rattle.std.specs.Prelude.{ℕ, suc, ◌+◌, ◌-◌, ◌≡◌, Bool, not}
 use Rattle.std.proofs.Common.{arith, add-one, ap, sym, ◌∙◌}
 use Rattle.std.proofs.Math.Path.{refl}
 use mathlib.Core.List.{List, [], ◌∷◌, ◌++◌}
@@ -19,7 +19,6 @@ use Rattle.judge.specs.declared.Done.{Done}
 use Rattle.judge.specs.Facts.{no_locals, body_facts}
 use Rattle.judge.specs.ProgramFacts.{Totals as Sum, added, struct_totals, step_totals}
 use Rattle.read_program.specs.declared.totals.Totals.{Totals}
-use Rattle.read_program.specs.declared.totals.TotalsRead.{TotalsRead}
 use Rattle.read_program.specs.declared.totals.TotalsRead.TheVariants.{Value, Refused}
 use Rattle.read_program.specs.Total.{with, less, over_by, plus, step_total, totals_read, told, Kept, Told, Low, Bounded}
 

@@ -1,12 +1,12 @@
 -- Each way through the reader of a whole program (01, 'Program stream', and numbers 4 to 8).
-use Rattle.std.specs.Prelude.{ℕ, ◌*◌, Bool, true, false, take, drop, ltb}
+use Rattle.std.specs.Prelude.{ℕ, ◌*◌, Bool, true, false, take, ltb}
 use Rattle.std.proofs.Common.{arith, ◌∙◌, take_at}
 use Rattle.std.proofs.Math.Path.{◌≡◌, refl, ap, sym}
-use mathlib.Core.List.{List, [], ◌∷◌, ◌++◌, map}
+use mathlib.Core.List.{List, [], ◌∷◌, map}
 use Rattle.std.proofs.Math.ListN.{length, length-map}
 use Rattle.types.specs.Types.{Ty}
 use Rattle.program.specs.Tree.{Items, Step, Program}
-use Rattle.program.specs.Reader.{Result, Result.ok, Result.bad, wrong_end, then, pair, made, many, ended, whole, read_params, read_steps, read_items}
+use Rattle.program.specs.Reader.{Result, Result.ok, Result.bad, then, pair, made, many, ended, whole, read_params, read_steps, read_items}
 use Rattle.program.specs.Reader.{read_item, read_program, read}
 use Rattle.directory.specs.Directory.{directory}
 use Rattle.directory.proofs.DirectoryLaws.{directory_count}
@@ -23,9 +23,8 @@ use Rattle.read_schedule.specs.PlanTold.{planned, told as plan_told}
 use Rattle.read_program.specs.declared.totals.Totals.{Totals}
 use Rattle.read_program.specs.declared.totals.TotalsRead.{TotalsRead}
 use Rattle.read_program.specs.declared.totals.TotalsRead.TheVariants.{Value as TotalsValue, Refused as TotalsRefused}
-use Rattle.read_program.specs.declared.ProgramRead.{ProgramRead}
 use Rattle.read_program.specs.declared.ProgramRead.TheVariants.{Value, Refused}
-use Rattle.read_program.specs.Total.{with, less, told, Kept, Told}
+use Rattle.read_program.specs.Total.{with, less, told, Told}
 use Rattle.read_program.specs.TotalWays.{told_is, told_stops}
 use Rattle.read_program.specs.Whole.{summary, end_told, steps_from, read_rest, rest_told, place_of, steps_place, program_told, RestListed, ReadListed}
 

@@ -1,5 +1,6 @@
 // A whole program stream: its parameters, the steps of its structs, its schedule (01, 'Program stream', and numbers 4 to 8).
 #![tactic(auto)]
+
 pub mod totals;
 
 ghost use Rattle.std.specs.Prelude.{◌≡◌, List, [], ℕ, ◌*◌, ◌<◌, ◌≤◌, length};

@@ -1,5 +1,6 @@
 // The schedule, read and planned in one walk (01, 'Program stream', and number 7): how many items, and whether each step is there.
 #![tactic(auto)]
+
 ghost use Rattle.std.specs.Prelude.{◌≡◌, List, ℕ, ◌+◌, ◌<◌, ◌^◌, length};
 ghost use Rattle.program.specs.Tree.{Item.call};
 ghost use Rattle.program.specs.Reader.{made, ranged, read_items, read_item};

@@ -4,7 +4,6 @@ use native.Mathlib.Omega.{arith}
 use Rattle.judge.specs.declared.Judged.{Judged}
 use Rattle.judge.specs.declared.Facts.{Facts}
 use Rattle.judge.specs.declared.Scope.{Scope}
-use Rattle.judge.specs.declared.Done.{Done}
 use Rattle.judge.specs.Facts.{branched, declared, updated}
 use Rattle.read_exprs.specs.declared.read.PathRead.TheVariants.{Path}
 use Rattle.read_exprs.specs.declared.read.ExprRead.{ExprRead}

@@ -1,6 +1,6 @@
 -- Each turn of the loop that reads statements in a row (01, 'Program stream'): what was read so far is totalled up, and what is left
 -- is read behind it.
-use Rattle.std.specs.Prelude.{ℕ, ◌+◌, ◌-◌, ◌≤◌, ◌<◌, ◌^◌, ◌≡◌, refl, List, length}
+use Rattle.std.specs.Prelude.{ℕ, ◌-◌, ◌≤◌, ◌≡◌, refl, List, length}
 use native.Mathlib.Omega.{arith}
 use Rattle.std.proofs.Math.Path.{ap, sym, subst}
 use Rattle.std.proofs.Common.{◌∙◌}

@@ -8,7 +8,7 @@ use Rattle.types.specs.Types.{Ty, code}
 use Rattle.program.specs.Tree.{Var, Expr, Exprs, Stmt, Stmts, Stmts.end, Stmts.next}
 use Rattle.types.specs.TypeBytes.{is_type}
 use Rattle.program.specs.Reader.{Result, Result.ok, Result.bad, then, pair, made, many, lookup, Kind, Kind.kind_when, Kind.kind_declare}
-use Rattle.program.specs.Reader.{Kind.kind_update, Kind.kind_create, Kind.kind_none, kind, byte, tested, opened, ranged, counted, read_local}
+use Rattle.program.specs.Reader.{Kind.kind_update, Kind.kind_create, Kind.kind_none, kind, tested, opened, ranged, counted, read_local}
 use Rattle.program.specs.Reader.{read_path, read_make, read_expr, read_body, read_when, read_declare, read_update, rule_stmt, read_stmt}
 use Rattle.program.proofs.Laws.StmtLaws.{OpensStmt, opens_stmt}
 use Rattle.answers.specs.Answers.{Answer, Answer.value, Answer.refused, answer}

@@ -1,5 +1,6 @@
 // Statements of a program stream, read and judged in one walk (01, numbers 4 to 8).
 #![tactic(auto)]
+
 pub mod made;
 pub mod simple;
 pub mod stmt;

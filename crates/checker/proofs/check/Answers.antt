@@ -1,6 +1,5 @@
 -- `check` meets its contract: the image is refused, the list is too short, or the commands of its program are written.
-use Rattle.std.proofs.Common.{arith, ◌≡◌, sym, ap, ◌∙◌, length-take-le}
-use Rattle.load.specs.declared.Loaded.{Loaded}
+use Rattle.std.proofs.Common.{arith, sym, ap, ◌∙◌, length-take-le}
 use Rattle.load.specs.LoadLaws.{LoadedAs, load_refused, load_value, length_fits, structs_few, admitted}
 use Rattle.checker.specs.Answer.{answer}
 use Rattle.checker.specs.CheckLaws.{refused_answers, short_answers, room_answers, approved_is, writable, wrote}

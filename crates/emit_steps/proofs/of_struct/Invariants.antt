@@ -1,4 +1,3 @@
-use Rattle.std.proofs.Common.{◌∷◌}
 use Rattle.commands.specs.ProgramWords.{steps_words}
 use Rattle.emit.specs.Written.{steps_at}
 use Rattle.emit.specs.Parts.{Rest}

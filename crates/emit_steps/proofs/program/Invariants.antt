@@ -1,4 +1,4 @@
-use Rattle.std.proofs.Common.{◌∷◌, length}
+use Rattle.std.proofs.Common.{length}
 use Rattle.commands.specs.ProgramWords.{structs_words}
 use Rattle.emit.specs.Written.{structs_at}
 use Rattle.emit.specs.Parts.{Rest}

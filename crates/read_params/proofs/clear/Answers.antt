@@ -1,5 +1,5 @@
 -- `clear` meets its contract. The invariant: the zeros that are left give what is to come out. The measure is how many are left.
-use Rattle.std.proofs.Common.{◌+◌, ◌<◌, arith, ◌≡◌, refl, length, length-set}
+use Rattle.std.proofs.Common.{◌<◌, arith, refl, length, length-set}
 use Rattle.read_params.specs.ParamsLeft.{zeros_none, zeros_more}
 use Rattle.read_params.proofs.clear.Goals as goal
 

@@ -1,4 +1,4 @@
-use Rattle.std.proofs.Common.{◌+◌, ◌<◌, ◌≡◌, [], length}
+use Rattle.std.proofs.Common.{◌+◌, ◌≡◌, [], length}
 use Rattle.std.proofs.lemmas.List.Edits.{sets}
 use Rattle.judge.specs.ProgramFacts.{row}
 use Rattle.read_params.proofs.clear.Given as goal

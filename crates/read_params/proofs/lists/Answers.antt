@@ -1,5 +1,5 @@
 -- `lists` meets its contract. The invariant: once the lists that are left are read and stand, all do. The measure is how many are left.
-use Rattle.std.proofs.Common.{◌+◌, ◌≤◌, arith, ◌≡◌, refl, sym, subst, ◌∙◌, ◌∷◌}
+use Rattle.std.proofs.Common.{arith, refl, sym, subst, ◌∙◌}
 use Rattle.read_params.specs.ParamsTold.{PlaceSpan}
 use Rattle.read_params.specs.ParamsWays.{span_from}
 use Rattle.read_params.specs.ParamsLeft.{lists_all, lists_none, lists_stop, lists_next}

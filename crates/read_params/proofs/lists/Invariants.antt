@@ -1,4 +1,4 @@
-use Rattle.std.proofs.Common.{◌+◌, ◌≤◌, ◌≡◌, ◌∙◌, [], ◌∷◌, length}
+use Rattle.std.proofs.Common.{◌+◌, ◌≤◌, ◌≡◌, [], ◌∷◌, length}
 use Rattle.program.specs.Reader.{many}
 use Rattle.read_params.specs.ParamsTold.{read_list}
 use Rattle.read_params.specs.ParamsLeft.{ListsLeft}

@@ -25,7 +25,7 @@ returns-in_default-q c =
 
 pub returns : goal.returns
 returns c =
-    let a = c.args in 
+    let a = c.args in
     let span = rw c.in-Byte.is at c.ranged-r.ensures.byte_span in
     let next = rw c.in-Place.is at c.lists-q.ensures.place_span in
     let h = params_more a.s.now c.in-Byte.n 0 _ (sym c.ranged-r.ensures.value ∙ c.in-Byte.is) in

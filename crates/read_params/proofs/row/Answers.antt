@@ -1,5 +1,5 @@
 -- `row` meets its contract. The invariant: once the types that are left are read and stand, all do. The measure is how many are left.
-use Rattle.std.proofs.Common.{◌+◌, ◌<◌, ◌≤◌, arith, ◌≡◌, refl, sym, ◌∙◌, ◌∷◌, length, length-set}
+use Rattle.std.proofs.Common.{◌<◌, arith, refl, sym, ◌∙◌, length, length-set}
 use Rattle.read_params.specs.ParamsLeft.{row_all, row_none, row_stops, row_next}
 use Rattle.read_params.proofs.row.Goals as goal
 

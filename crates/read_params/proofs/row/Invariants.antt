@@ -1,4 +1,4 @@
-use Rattle.std.proofs.Common.{◌+◌, ◌<◌, ◌≤◌, ◌≡◌, ◌∙◌, [], ◌∷◌, length}
+use Rattle.std.proofs.Common.{◌+◌, ◌≤◌, ◌≡◌, [], ◌∷◌, length}
 use Rattle.program.specs.Reader.{many, read_type}
 use Rattle.read_params.specs.ParamsLeft.{RowLeft}
 use Rattle.read_params.proofs.row.Given as goal

@@ -1,11 +1,11 @@
 -- `item` and `items` meet their contracts: the unread bytes fall. The loop's invariant: what is left, read behind what was planned so far,
 -- comes to what the whole does.
-use Rattle.std.proofs.Common.{◌+◌, ◌-◌, ◌<◌, ◌≤◌, arith, ◌≡◌, refl, ap, sym, ◌∙◌}
+use Rattle.std.proofs.Common.{◌+◌, ◌-◌, arith, ◌≡◌, refl, ap, sym, ◌∙◌}
 use Rattle.program.specs.Reader.{read_item, read_items}
 use Rattle.directory.specs.Rows.{rows_from}
-use Rattle.judge.specs.ProgramFacts.{plan, item_plan, items_plan}
+use Rattle.judge.specs.ProgramFacts.{item_plan, items_plan}
 use Rattle.read_schedule.specs.PlanTold.{plan_of, plan_read, told}
-use Rattle.read_schedule.specs.PlanWays.{fix_around, row, row_ends, row_refused, row_goes, items_stop, items_row, item_out, item_call, item_call_in}
+use Rattle.read_schedule.specs.PlanWays.{fix_around, row_ends, row_refused, row_goes, items_stop, items_row, item_out, item_call, item_call_in}
 use Rattle.read_schedule.specs.PlanWays.{item_none, item_deep, item_fix, span_less, span_fixed, span_joined, room}
 use Rattle.read_schedule.proofs.+item_items.Goals as goal
 
@@ -42,7 +42,7 @@ item-around-requires t c =
 pub item-returns : goal.item-returns
 item-returns t c =
     let a = c.args in
-    record { by_index = rw c.around.ensures (λ ar l. rw ( c.items.ensures.by_index ar l, item_fix ar a.s.now a.depth a.at c.if-s-at.false c.if-b-ne-FIX.false c.if-depth-eq0.false, ) (sym (fix_around (rows_from a.rows.now 0 a.steps) a.structs (read_items ar a.s.now (read_item ar a.s.now (a.depth - 1)) (a.at + 1))))); ahead = rw c.around.ensures (span_fixed a.s.now a.at c.items.result c.items.ensures.ahead) }
+    record { by_index = rw c.around.ensures (λ ar l. rw (c.items.ensures.by_index ar l, item_fix ar a.s.now a.depth a.at c.if-s-at.false c.if-b-ne-FIX.false c.if-depth-eq0.false) (sym (fix_around (rows_from a.rows.now 0 a.steps) a.structs (read_items ar a.s.now (read_item ar a.s.now (a.depth - 1)) (a.at + 1))))); ahead = rw c.around.ensures (span_fixed a.s.now a.at c.items.result c.items.ensures.ahead) }
 
 pub items-returns-in_default : goal.items-returns-in_default
 items-returns-in_default t c =

@@ -1,7 +1,6 @@
-use Rattle.std.proofs.Common.{◌+◌, ◌-◌, ℕ, ◌<◌, ◌≤◌, ◌≡◌, ◌∙◌, List, length}
+use Rattle.std.proofs.Common.{◌+◌, ◌-◌, ℕ, ◌≤◌, ◌≡◌, List, length}
 use Rattle.program.specs.Reader.{read_item}
 use Rattle.directory.specs.Rows.{rows_from}
-use Rattle.judge.specs.ProgramFacts.{plan}
 use Rattle.read_schedule.specs.PlanTold.{plan_of}
 use Rattle.read_schedule.specs.PlanWays.{row}
 use Rattle.read_schedule.proofs.+item_items.Given as goal

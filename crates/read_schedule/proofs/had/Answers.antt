@@ -1,7 +1,6 @@
 -- `had` meets its contract. The loop's invariant: some struct has the step where one from struct k on has it. The measure is the structs left.
-use Rattle.std.proofs.Common.{◌-◌, ◌≤◌, arith, ◌≡◌, refl, sym, ◌∙◌}
+use Rattle.std.proofs.Common.{◌-◌, arith, ◌≡◌, refl, sym, ◌∙◌}
 use Rattle.directory.specs.Rows.{rows_from}
-use Rattle.judge.specs.ProgramFacts.{had}
 use Rattle.read_schedule.specs.PlanWays.{had_none, had_here, had_on}
 use Rattle.read_schedule.proofs.had.Goals as goal
 

@@ -1,4 +1,4 @@
-use Rattle.std.proofs.Common.{◌-◌, ◌≤◌, ◌≡◌, ◌∙◌}
+use Rattle.std.proofs.Common.{◌-◌, ◌≤◌, ◌≡◌}
 use Rattle.directory.specs.Rows.{rows_from}
 use Rattle.judge.specs.ProgramFacts.{had}
 use Rattle.read_schedule.proofs.had.Given as goal

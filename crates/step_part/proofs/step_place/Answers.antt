@@ -1,5 +1,5 @@
 -- `step_part::step_place` meets its contract: the image is refused, the list is too short, or the step was looked for.
-use Rattle.std.proofs.Common.{◌≡◌, sym, ap, ◌∙◌}
+use Rattle.std.proofs.Common.{sym, ap, ◌∙◌}
 use Rattle.step_part.specs.declared.Spot.{Spot}
 use Rattle.step_part.specs.StepPartLaws.{place_numbered, place_short, place_room}
 use Rattle.step_part.proofs.step_place.Goals as goal

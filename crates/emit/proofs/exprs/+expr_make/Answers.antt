@@ -1,6 +1,6 @@
 -- `emit::exprs` meets its contracts, a law for each form. The measure goes by the depth, with a construct above its arguments. The invariant
 -- of the loop over these: once those that are left are written, all are.
-use Rattle.std.proofs.Common.{length, get_or, ◌<◌, ◌+◌, ◌*◌, arith, ◌≡◌, refl, ap, ◌∙◌}
+use Rattle.std.proofs.Common.{length, get_or, ◌<◌, ◌+◌, arith, refl, ap, ◌∙◌}
 use Rattle.program.specs.Tree.{Exprs}
 use Rattle.program.specs.Reader.{Result}
 use Rattle.emit.specs.Written.{Wrote, args_words, args_at}

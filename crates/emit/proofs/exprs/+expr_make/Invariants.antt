@@ -1,4 +1,4 @@
-use Rattle.std.proofs.Common.{length, ◌<◌, ◌+◌, ◌*◌, ◌≡◌, ◌∙◌}
+use Rattle.std.proofs.Common.{◌+◌, ◌*◌}
 use Rattle.emit.specs.Written.{args_words, args_at}
 use Rattle.emit.specs.Parts.{Rest}
 use Rattle.emit.proofs.exprs.+expr_make.Given as goal

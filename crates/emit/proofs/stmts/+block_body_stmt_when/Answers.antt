@@ -1,6 +1,6 @@
 -- `emit::stmts` meets its contracts, a law for each kind. The measure goes by the levels of if, with a body, a block and an if above its
 -- statements. The invariant of the loop over these: once those that are left are written, all are.
-use Rattle.std.proofs.Common.{length, ◌<◌, ◌+◌, ◌*◌, arith, ◌∙◌}
+use Rattle.std.proofs.Common.{length, ◌<◌, ◌+◌, arith, ◌∙◌}
 use Rattle.emit.specs.Written.{Ready, body_words, body_at as body-from}
 use Rattle.emit.specs.Laws.WrittenLaws.{placed_kept}
 use Rattle.emit.specs.Laws.PartsLaws.{part_ready, part_same, parts_ready, parts_next, parts_same, rest_all}

@@ -1,4 +1,4 @@
-use Rattle.std.proofs.Common.{length, ◌<◌, ◌+◌, ◌*◌, ◌∙◌}
+use Rattle.std.proofs.Common.{◌+◌, ◌*◌}
 use Rattle.emit.specs.Written.{body_words, stmts_at as stmts-from}
 use Rattle.emit.specs.Parts.{Rest}
 use Rattle.emit.proofs.stmts.+block_body_stmt_when.Given as goal

@@ -1,5 +1,5 @@
 -- `emit::words::reads` meets its contract. The invariant: the reads that are left give what is to come out. The measure is how many are left.
-use Rattle.std.proofs.Common.{◌+◌, ◌<◌, arith, ◌≡◌, refl, ◌∙◌, length}
+use Rattle.std.proofs.Common.{◌<◌, arith, refl, ◌∙◌, length}
 use Rattle.emit.specs.Laws.LeafLaws.{reads_none, reads_more}
 use Rattle.emit.proofs.words.reads.Goals as goal
 

@@ -1,9 +1,9 @@
 -- `expr::construct` and `expr::expr` meet their contracts, by a law for each way through them. The unread bytes fall. The invariant of the
 -- arguments' loop: those left, behind what was computed of the others, come to what all of them do.
-use Rattle.std.proofs.Common.{◌-◌, ◌^◌, ◌<◌, ◌≤◌, arith, ◌≡◌, refl, ap, sym, ◌∙◌, length}
+use Rattle.std.proofs.Common.{◌-◌, ◌^◌, ◌<◌, arith, ◌≡◌, refl, ap, sym, ◌∙◌, length}
 use Rattle.program.specs.Reader.{read_expr}
 use Rattle.read_exprs.specs.FormWays.{op_form}
-use Rattle.judge.specs.Facts.{no_args, constructed}
+use Rattle.judge.specs.Facts.{constructed}
 use Rattle.answers.specs.Answers.{after as made_of}
 use Rattle.read_exprs.specs.Told.{expr_read}
 use Rattle.read_exprs.specs.ExprWays.{args_end, args_stop, args_more, args_read, make_stop, make_row, expr_out, expr_deep, is_not, is_make}

@@ -1,4 +1,4 @@
-use Rattle.std.proofs.Common.{◌-◌, ◌^◌, ◌<◌, ◌≤◌, ◌≡◌, ◌∙◌, length}
+use Rattle.std.proofs.Common.{◌-◌, ◌≤◌, ◌≡◌, length}
 use Rattle.program.specs.Reader.{read_expr}
 use Rattle.judge.specs.Facts.{no_args}
 use Rattle.read_exprs.specs.Told.{ArgsRead}

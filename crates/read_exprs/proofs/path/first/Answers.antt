@@ -1,5 +1,5 @@
 -- `path::first` meets its contract: the first variable is not read, or is, alone or with others behind it.
-use Rattle.std.proofs.Common.{arith, sym, ◌∙◌, ◌-◌}
+use Rattle.std.proofs.Common.{arith, sym, ◌∙◌}
 use Rattle.read_exprs.specs.PathWays.{vars_stop, vars_more, span_first}
 use Rattle.read_exprs.proofs.path.first.Goals as goal
 

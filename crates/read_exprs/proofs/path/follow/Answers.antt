@@ -1,8 +1,6 @@
 -- `path::follow` meets its contract. The loop's invariant: what is left, read from the value reached, leads where the whole does. The measure is
 -- how many parameters are left.
-use Rattle.std.proofs.Common.{◌+◌, ◌-◌, ◌≤◌, arith, ◌≡◌, refl, ap, sym, ◌∙◌, ◌∷◌}
-use Rattle.program.specs.Reader.{ranged}
-use Rattle.judge.specs.Facts.{lead}
+use Rattle.std.proofs.Common.{◌+◌, ◌-◌, arith, ◌≡◌, refl, ap, sym, ◌∙◌}
 use Rattle.read_exprs.specs.declared.read.PathRead.TheVariants.{Path}
 use Rattle.read_exprs.specs.PathWays.{row_none, row_stop, row_more}
 use Rattle.read_exprs.proofs.path.follow.Goals as goal

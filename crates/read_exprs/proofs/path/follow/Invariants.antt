@@ -1,4 +1,4 @@
-use Rattle.std.proofs.Common.{◌+◌, ◌-◌, ◌≤◌, ◌≡◌, ◌∙◌, [], ◌∷◌, length}
+use Rattle.std.proofs.Common.{◌+◌, ◌-◌, ◌≤◌, ◌≡◌, [], ◌∷◌, length}
 use Rattle.program.specs.Reader.{many, ranged}
 use Rattle.judge.specs.Facts.{lead}
 use Rattle.read_exprs.specs.Told.{row_told}

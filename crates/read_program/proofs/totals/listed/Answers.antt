@@ -1,5 +1,5 @@
 -- `totals::listed` meets its contract. The loop's invariant: of the rows from i on, which are the struct's own, none has the name. The measure is i.
-use Rattle.std.proofs.Common.{◌<◌, ◌≤◌, arith, ◌≡◌, sym, ◌∙◌}
+use Rattle.std.proofs.Common.{arith, ◌≡◌, sym, ◌∙◌}
 use Rattle.read_program.specs.OwnLaws.{back_all, back_end, back_other, back_found, back_on}
 use Rattle.read_program.proofs.totals.listed.Goals as goal
 

@@ -1,4 +1,3 @@
-use Rattle.std.proofs.Common.{◌<◌, ◌≤◌, ◌≡◌, ◌∙◌}
 use Rattle.read_program.specs.Own.{Back}
 use Rattle.read_program.proofs.totals.listed.Given as goal
 

@@ -1,6 +1,6 @@
 -- `totals::of_struct` meets its contract: how many steps is not read, or is, with them behind it. The loop's invariant: the steps left, behind
 -- what was totalled up of the others, come to what all of them do. The measure is how many are left.
-use Rattle.std.proofs.Common.{◌+◌, ◌≤◌, arith, ◌≡◌, refl, sym, ◌∙◌}
+use Rattle.std.proofs.Common.{arith, ◌≡◌, refl, sym, ◌∙◌}
 use Rattle.program.specs.Reader.{read_steps}
 use Rattle.judge.specs.ProgramFacts.{struct_totals}
 use Rattle.read_program.specs.Total.{with}

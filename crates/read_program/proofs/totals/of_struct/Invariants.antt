@@ -1,4 +1,4 @@
-use Rattle.std.proofs.Common.{◌+◌, ◌≤◌, ◌≡◌, ◌∙◌, length}
+use Rattle.std.proofs.Common.{◌+◌, ◌≤◌, ◌≡◌, length}
 use Rattle.types.specs.Limits.{max_steps}
 use Rattle.directory.specs.Rows.{rows_from}
 use Rattle.read_program.specs.Total.{Low}

@@ -1,6 +1,6 @@
 -- `totals::structs` meets its contract. The loop's invariant: the steps of the structs left, behind what was totalled up of the others, come
 -- to what all of them do. The measure is how many structs are left.
-use Rattle.std.proofs.Common.{◌+◌, ◌*◌, ◌≤◌, arith, ◌≡◌, refl, sym, ◌∙◌, [], ◌∷◌}
+use Rattle.std.proofs.Common.{arith, ◌≡◌, refl, sym, ◌∙◌, [], ◌∷◌}
 use Rattle.program.specs.Reader.{many, read_steps}
 use Rattle.judge.specs.ProgramFacts.{step_totals}
 use Rattle.read_program.specs.Total.{with}

@@ -1,10 +1,10 @@
 -- `stmt::body`, `stmt::stmt` and `stmt::when` meet their contracts, by a law for each way through them. The unread bytes fall. The loop's
 -- invariant: the statements left, behind what is totalled up of the others, come to what all of them do.
-use Rattle.std.proofs.Common.{◌-◌, ◌^◌, ◌<◌, arith, ◌≡◌, refl, ap, sym, ◌∙◌, length}
+use Rattle.std.proofs.Common.{◌^◌, ◌<◌, arith, ◌≡◌, refl, ap, sym, ◌∙◌, length}
 use Rattle.program.specs.Reader.{read_stmt}
 use Rattle.read_stmts.specs.Done.{stmt_read}
 use Rattle.read_stmts.specs.StmtWays.{when_stop, when_is, body_stop, stmt_out, stmt_simple, stmt_deep, stmt_when}
-use Rattle.read_stmts.specs.RowWays.{row, row_ends, row_refused, row_goes, body_row, nothing_read, more_read}
+use Rattle.read_stmts.specs.RowWays.{row_ends, row_refused, row_goes, body_row, nothing_read, more_read}
 use Rattle.read_stmts.specs.DoneWays.{done_room, behind_ahead, span_branched}
 use Rattle.read_stmts.proofs.stmt.+body_stmt_when.Goals as goal
 

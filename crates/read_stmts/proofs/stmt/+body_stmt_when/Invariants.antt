@@ -1,4 +1,4 @@
-use Rattle.std.proofs.Common.{◌-◌, ◌^◌, ◌<◌, ◌≡◌, ◌∙◌, length}
+use Rattle.std.proofs.Common.{◌-◌, ◌≡◌, length}
 use Rattle.program.specs.Reader.{read_stmt}
 use Rattle.read_stmts.specs.RowWays.{Read, row}
 use Rattle.read_stmts.proofs.stmt.+body_stmt_when.Given as goal
