@@ -2,7 +2,7 @@
 -- says that it is met, so nothing is tested here.
 use Rattle.std.specs.Prelude.{ℕ, suc, ◌+◌, ◌-◌, ◌*◌, ◌%◌, true, false, List, length, get_or, set, take, drop, eqb, ltb, leb}
 use Rattle.std.proofs.lemmas.List.Edits.{sets}
-use Rattle.types.specs.Limits.{max_instances, max_depth, variables}
+use Rattle.types.specs.Limits.{max_instances}
 use Rattle.operators.specs.declared.Answered.{Answered}
 use Rattle.operators.specs.declared.Answered.TheVariants.{Value, Outside, Unfit}
 use Rattle.operators.specs.Words.{apply_word}

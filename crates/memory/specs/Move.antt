@@ -1,5 +1,5 @@
 -- One move of the schedule, on memory (000's rules for the schedule; 01, 'Table and turns').
-use Rattle.std.specs.Prelude.{ℕ, zero, suc, ◌+◌, ◌-◌, ◌*◌, ◌/◌, ◌%◌, ◌<◌, ◌≤◌, Bool, true, false, ◌||◌, ◌&&◌, List, get_or, eqb, ltb, leb}
+use Rattle.std.specs.Prelude.{ℕ, zero, suc, ◌-◌, ◌*◌, ◌/◌, ◌%◌, Bool, true, false, ◌||◌, ◌&&◌, List, get_or, eqb, ltb, leb}
 use Rattle.types.specs.Limits.{step_names}
 use Rattle.layout.specs.Layout.{head, struct_of, begun}
 use Rattle.layout.specs.State.{State, with_heads, with_holding, moved}

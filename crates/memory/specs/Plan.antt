@@ -1,6 +1,6 @@
 -- What a run prepares of a program (01, 'Table and turns'): the schedule laid flat, so that what is left of it is a place, and where
 -- the commands of each step stand in the list.
-use Rattle.std.specs.Prelude.{ℕ, zero, suc, ◌+◌, ◌-◌, ◌*◌, ◌<◌, ◌≤◌, ◌≡◌, List, [], ◌∷◌, ◌++◌, length, get_or, take, drop}
+use Rattle.std.specs.Prelude.{ℕ, suc, ◌+◌, ◌-◌, ◌*◌, ◌<◌, ◌≤◌, ◌≡◌, List, [], ◌∷◌, ◌++◌, length, get_or, take, drop}
 use Rattle.std.proofs.Math.Option.{Option, none, some}
 use Rattle.types.specs.Limits.{max_structs, step_names}
 use Rattle.program.specs.Tree.{Stmts, Program}

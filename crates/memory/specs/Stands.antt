@@ -1,18 +1,17 @@
 -- When memory holds a machine (01, 'Table and turns'): every instance with its struct, commands, stack and variables, the stability
 -- entries and the place in the schedule. A cell's type byte says which kind of value it shows.
-use Rattle.std.specs.Prelude.{ℕ, zero, suc, ◌+◌, ◌-◌, ◌*◌, ◌<◌, ◌≤◌, ◌≡◌, Bool, true, false, List, [], ◌∷◌, map, length, get_or, take, drop}
+use Rattle.std.specs.Prelude.{ℕ, suc, ◌-◌, ◌*◌, ◌≤◌, ◌≡◌, Bool, true, false, List, [], ◌∷◌, map, length, get_or, take, drop}
 use Rattle.std.proofs.Math.Option.{some}
 use Rattle.std.proofs.Math.ListN.{get_elem?}
-use Rattle.types.specs.Limits.{max_structs, max_instances, variables}
+use Rattle.types.specs.Limits.{max_structs, max_instances}
 use Rattle.types.specs.Types.{Ty, IsType, code}
 use Rattle.types.specs.Values.{Val, word}
 use Rattle.types.specs.TypeBytes.{ValueOf}
-use Rattle.program.specs.Tree.{Program}
 use Rattle.commands.specs.Noted.{Note, erase}
 use Rattle.commands.specs.Coding.{words}
-use Rattle.machine.specs.Published.{Sched, Env, lookup}
+use Rattle.machine.specs.Published.{Sched, lookup}
 use Rattle.machine.specs.Machine.{Tagged, Instance, Machine}
-use Rattle.layout.specs.Layout.{head, head_size, struct_of, height_of, next_of, end_of, row_size, variable, stacked, cell}
+use Rattle.layout.specs.Layout.{head_size, struct_of, height_of, next_of, end_of, row_size, variable, stacked, cell}
 use Rattle.layout.specs.State.{State, of_head, of_cell}
 
 -- a cell shows a value, under a type of its kind

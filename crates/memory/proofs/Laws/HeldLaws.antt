@@ -10,7 +10,7 @@ use Rattle.machine.specs.Machine.{Tagged, Instance}
 use Rattle.layout.specs.Layout.{head, head_size, struct_of, height_of, next_of, end_of, variable, stacked, operand}
 use Rattle.layout.specs.declared.Numbers.{Numbers}
 use Rattle.layout.specs.State.{State, of_head, of_cell, with_machine}
-use Rattle.memory.specs.Act.{height, top, beneath, after, next_word}
+use Rattle.memory.specs.Act.{top, beneath, after, next_word}
 use Rattle.memory.specs.Stands.{Shows, Stack, note_words, Held}
 use Rattle.memory.specs.Frame.{Same, Slim, moved}
 use Rattle.memory.proofs.Laws.CellLaws.{shown_operand}

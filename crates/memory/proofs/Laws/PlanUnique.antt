@@ -1,10 +1,10 @@
 -- A place of the schedule laid flat stands for one schedule only (01, 'Table and turns'): what is left is read off the codes.
-use Rattle.std.specs.Prelude.{ℕ, zero, suc, ◌+◌, ◌-◌, ◌/◌, ◌%◌, ◌<◌, ◌≤◌, ◌≡◌, true, false, List, length, get_or, ltb, eqb}
+use Rattle.std.specs.Prelude.{ℕ, zero, suc, ◌+◌, ◌-◌, ◌/◌, ◌%◌, ◌≤◌, ◌≡◌, true, false, List, length, get_or, ltb, eqb}
 use Rattle.std.proofs.Math.Path.{refl, ap}
 use Rattle.std.proofs.Common.{sym, ◌∙◌}
 use native.Mathlib.Omega.{arith}
 use borrow.Author.Tests.{lt-ltb, le-ltb, ne_eqb}
-use Rattle.types.specs.Limits.{max_structs, step_names}
+use Rattle.types.specs.Limits.{step_names}
 use Rattle.machine.specs.Published.{StepCall, StepCall.global, StepCall.local, Sched, Sched.done, Sched.start, Sched.fixpoint, Sched.active, before}
 use Rattle.layout.specs.Codes.{fix_code, end_code, round_code}
 use Rattle.memory.specs.Plan.{start_code, RangedCall, Ranged, At, At.at_end, At.at_start, At.at_fix, At.at_round}
