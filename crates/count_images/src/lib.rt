@@ -1,6 +1,7 @@
 // How many orders of a step end in which way (02 §14): a program image, a table image, a step name, a label and a parameter to a number and three counts; the
 // commands to the lent list, as a run leaves them there.
 #![tactic(auto)]
+
 ghost use Rattle.std.specs.Prelude.{◌≡◌, ◌≤◌, ◌<◌, length};
 ghost use Rattle.types.specs.Limits.{max_structs, step_names};
 ghost use Rattle.scheduler.specs.Ready.{spans_size};

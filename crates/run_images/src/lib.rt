@@ -1,6 +1,7 @@
 // A run on images (01, 'Numbers from the input' and 'Numbers from the state'): a program image, a table image and turn bytes to a
 // number, the commands taken, the blocks written and the depth; the commands to the lent list, the last table to the output.
 #![tactic(auto)]
+
 ghost use Rattle.std.specs.Prelude.{◌≡◌, ◌*◌, ◌≤◌, length};
 ghost use Rattle.types.specs.Limits.{table_blocks, max_turns, max_instances};
 ghost use Rattle.block.specs.Block.{block_size, payload_size};

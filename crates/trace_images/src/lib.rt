@@ -2,6 +2,7 @@
 // the run and the length of its trace's text; of the text the bytes from a place on, as many as the output holds. A call makes the run anew: nothing is
 // kept between pages.
 #![tactic(auto)]
+
 mod pages;
 mod telling;
 

@@ -1,6 +1,7 @@
 // The lines of a trace on lent memory (docs/FORMAT.md, 'Traces'): a turn and a move of the schedule, each made and told in one call. The bytes
 // that stand in `out` then are those that `trace` defines of the machine before it and the one behind it.
 #![tactic(auto)]
+
 mod choice;
 pub mod parts;
 pub mod writes;
