@@ -1,6 +1,6 @@
 -- Each way to the end of reading: what is answered and what is left in the output are those of the text's outcome (02 §1).
-use Rattle.std.specs.Prelude.{ℕ, ◌*◌, ◌<◌, ◌≤◌, ◌≡◌, Bool, false, not, List, ◌++◌, length, ltb}
-use Rattle.std.proofs.Common.{arith, ap, ◌∙◌}
+use Rattle.std.specs.Prelude.{ℕ, ◌*◌, ◌<◌, ◌≤◌, ◌≡◌, Bool, false, not, List, length, ltb}
+use Rattle.std.proofs.Common.{arith, ◌∙◌}
 use Rattle.std.proofs.Math.Path.{refl, sym}
 use Rattle.std.proofs.Math.Bool.{true}
 use Rattle.std.proofs.Math.Option.{Option, none, some}
@@ -20,8 +20,7 @@ use Rattle.meaning.specs.Meant.{then, provided}
 use Rattle.meaning.specs.HoldsDecide.{holds}
 use Rattle.source.specs.Source.{Outcome, number_of, blocks_of, output_of}
 use Rattle.source.specs.TextReader.{of_program}
-use Rattle.read_text.specs.Ending.{Ending, Ending.wrote, Ending.stopped, with_room, ended, answer, left, ending}
-use Rattle.read_text.specs.declared.Answer.{Answer}
+use Rattle.read_text.specs.Ending.{Ending.wrote, Ending.stopped, with_room, ended, answer, left, ending}
 use Rattle.meaning.specs.Holds.{max_stream, block_bytes}
 
 -- Of an outcome ----------------------------------------------------------------------------------

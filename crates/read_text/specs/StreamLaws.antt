@@ -1,6 +1,6 @@
 -- A stream of a text (02 §1): what its numbers are in lent memory, and how long it is.
-use Rattle.std.specs.Prelude.{ℕ, zero, suc, ◌+◌, ◌-◌, ◌<◌, ◌≤◌, ◌≡◌, refl, Bool, true, false, ◌&&◌, List, ◌∷◌, ◌++◌, length, take, leb}
-use Rattle.std.proofs.Common.{arith, sym, ap, ◌∙◌, length-append, length-take-le, get_or-take, leb-true}
+use Rattle.std.specs.Prelude.{ℕ, zero, suc, ◌≤◌, ◌≡◌, refl, Bool, true, false, ◌&&◌, List, ◌∷◌, ◌++◌, length, take, leb}
+use Rattle.std.proofs.Common.{arith, ap, length-append, length-take-le, get_or-take, leb-true}
 use Rattle.std.proofs.lemmas.Bool.{false≢true}
 use Rattle.std.proofs.Math.Option.{some}
 use Rattle.meaning.specs.Meant.{provided}

@@ -19,7 +19,7 @@ use Rattle.text_shape.specs.Roles.{Naming.new_local}
 use Rattle.text_shape.specs.Roles.{Naming.first_read, Naming.first_written, Naming.later_variable, Naming.made, Naming.made_statement, Naming.called}
 use Rattle.text_shape.specs.Roles.{Naming.called_struct, Naming.called_step}
 use Rattle.text_shape.specs.Roles.{Part, Part.brackets_open, Part.brackets_close, Part.args_open, Part.args_close, Part.no_args_close, Part.pars_open}
-use Rattle.text_shape.specs.Roles.{Part.pars_close, Part.fix_open, Part.fix_close, Part.steps_open, Part.steps_close, Part.body_Open, Part.body_close}
+use Rattle.text_shape.specs.Roles.{Part.pars_close, Part.fix_open, Part.fix_close, Part.steps_open, Part.steps_close, Part.body_open, Part.body_close}
 use Rattle.text_shape.specs.Roles.{Part.then_open, Part.then_close, Part.par_comma, Part.arg_comma, Part.barrier_sign, Role, Role.plain, Role.naming}
 use Rattle.text_shape.specs.Roles.{Role.typed}
 use Rattle.text_shape.specs.Roles.{Role.part}
@@ -143,7 +143,7 @@ module _ (ds : List Struct) (names : List Id) where
   pass_part fix_close p = some p
   pass_part steps_open p = some p
   pass_part steps_close p = some p
-  pass_part body_Open p = some p
+  pass_part body_open p = some p
   -- a step's locals are its own
   pass_part body_close p = some (lives p [] [] [] [])
   pass_part then_open p = some (lives p p.alive [] p.met (p.alive ∷ p.bodies))

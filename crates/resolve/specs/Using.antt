@@ -14,7 +14,7 @@ use Rattle.text_shape.specs.Roles.{Typed, Typed.of_par, Typed.of_local, Typed.of
 use Rattle.text_shape.specs.Roles.{Naming.new_local, Naming.first_read, Naming.first_written, Naming.later_variable, Naming.made, Naming.made_statement}
 use Rattle.text_shape.specs.Roles.{Naming.called, Naming.called_struct, Naming.called_step}
 use Rattle.text_shape.specs.Roles.{Part, Part.brackets_open, Part.brackets_close, Part.args_open, Part.args_close, Part.no_args_close, Part.pars_open}
-use Rattle.text_shape.specs.Roles.{Part.pars_close, Part.fix_open, Part.fix_close, Part.steps_open, Part.steps_close, Part.body_Open, Part.body_close}
+use Rattle.text_shape.specs.Roles.{Part.pars_close, Part.fix_open, Part.fix_close, Part.steps_open, Part.steps_close, Part.body_open, Part.body_close}
 use Rattle.text_shape.specs.Roles.{Part.then_open, Part.then_close, Part.par_comma, Part.arg_comma, Part.barrier_sign, Role, Role.plain, Role.naming}
 use Rattle.text_shape.specs.Roles.{Role.typed}
 use Rattle.text_shape.specs.Roles.{Role.part}
@@ -213,7 +213,7 @@ use_part fix_open u = some u
 use_part fix_close u = some u
 use_part steps_open u = some u
 use_part steps_close u = some u
-use_part body_Open u = some u
+use_part body_open u = some u
 use_part body_close u = some (live u [] [] [] 0 [] [])
 use_part then_open u = some (use_opens u)
 use_part then_close u = use_dies u u.heights

@@ -9,7 +9,7 @@ use Rattle.text_shape.specs.Roles.{Typed, Typed.of_par, Typed.of_local, Typed.of
 use Rattle.text_shape.specs.Roles.{Naming.new_local, Naming.first_read, Naming.first_written, Naming.later_variable, Naming.made, Naming.made_statement}
 use Rattle.text_shape.specs.Roles.{Naming.called, Naming.called_struct, Naming.called_step}
 use Rattle.text_shape.specs.Roles.{Part, Part.brackets_open, Part.brackets_close, Part.args_open, Part.args_close, Part.no_args_close, Part.pars_open}
-use Rattle.text_shape.specs.Roles.{Part.pars_close, Part.fix_open, Part.fix_close, Part.steps_open, Part.steps_close, Part.body_Open, Part.body_close}
+use Rattle.text_shape.specs.Roles.{Part.pars_close, Part.fix_open, Part.fix_close, Part.steps_open, Part.steps_close, Part.body_open, Part.body_close}
 use Rattle.text_shape.specs.Roles.{Part.then_open, Part.then_close, Part.par_comma, Part.arg_comma, Part.barrier_sign}
 use Rattle.resolve.specs.Named.{name_of}
 use Rattle.resolve.specs.Digits.{digits_of}
@@ -34,7 +34,7 @@ type_numbers = 0 ∷ 1 ∷ 2 ∷ 3 ∷ 0 ∷ 1 ∷ 2 ∷ 3 ∷ 0 ∷ 1 ∷ 2 ∷
 abbrev parts : List Part
 parts =
     brackets_open ∷ brackets_close ∷ args_open ∷ args_close ∷ no_args_close ∷ pars_open ∷ pars_close ∷ fix_open ∷ fix_close ∷ steps_open ∷ steps_close
-    ∷ body_Open ∷ body_close ∷ then_open ∷ then_close ∷ par_comma ∷ arg_comma ∷ barrier_sign ∷ []
+    ∷ body_open ∷ body_close ∷ then_open ∷ then_close ∷ par_comma ∷ arg_comma ∷ barrier_sign ∷ []
 
 unfoldable pub naming_at : ℕ → Naming
 naming_at c = get_or namings (c - new_struct_role) new_par

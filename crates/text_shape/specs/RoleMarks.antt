@@ -9,7 +9,7 @@ use Rattle.text_shape.specs.Roles.{Typed.of_par, Typed.of_local, Typed.of_null, 
 use Rattle.text_shape.specs.Roles.{Naming.first_read, Naming.first_written, Naming.later_variable, Naming.made, Naming.made_statement, Naming.called}
 use Rattle.text_shape.specs.Roles.{Naming.called_struct, Naming.called_step}
 use Rattle.text_shape.specs.Roles.{Part.brackets_open, Part.brackets_close, Part.args_open, Part.args_close, Part.no_args_close, Part.pars_open}
-use Rattle.text_shape.specs.Roles.{Part.pars_close, Part.fix_open, Part.fix_close, Part.steps_open, Part.steps_close, Part.body_Open, Part.body_close}
+use Rattle.text_shape.specs.Roles.{Part.pars_close, Part.fix_open, Part.fix_close, Part.steps_open, Part.steps_close, Part.body_open, Part.body_close}
 use Rattle.text_shape.specs.Roles.{Part.then_open, Part.then_close, Part.par_comma, Part.arg_comma, Part.barrier_sign}
 use Rattle.text_shape.specs.Roles.{Naming, naming_code, typed_code, type_number, part_code}
 use Rattle.text_shape.specs.Shape.{Shape, Shape.shape, sample, move}
@@ -67,7 +67,7 @@ marks t =
     ∷ on_sign comma (part_code par_comma) (on_sign rpar (part_code pars_close) by_kind t) t
     ∷ on_sign lbrace (part_code steps_open) by_kind t
     ∷ on_sign rbrace (part_code steps_close) (a_name new_step t) t
-    ∷ on_sign lbrace (part_code body_Open) by_kind t
+    ∷ on_sign lbrace (part_code body_open) by_kind t
     ∷ on_type_word (λ a. typed_code of_local + type_number a) (on_sign rbrace by_opened (a_name first_written t) t) t
     ∷ on_sign lpar (part_code args_open) (a_name new_local t) t
     ∷ a_name later_variable t

@@ -33,7 +33,7 @@ pub data Part : Type 0 where
   -- ( and ) of an expression in brackets; of arguments, with a ) of its own where there are none; of parameters; of a Fix
   brackets_open brackets_close args_open args_close no_args_close pars_open pars_close fix_open fix_close : Part
   -- { and } round a struct's steps, a step's body, an if's body
-  steps_open steps_close body_Open body_close then_open then_close : Part
+  steps_open steps_close body_open body_close then_open then_close : Part
   -- , behind a parameter, behind an argument; < behind an item
   par_comma arg_comma barrier_sign : Part
 
@@ -88,7 +88,7 @@ part_number fix_open = 7
 part_number fix_close = 8
 part_number steps_open = 9
 part_number steps_close = 10
-part_number body_Open = 11
+part_number body_open = 11
 part_number body_close = 12
 part_number then_open = 13
 part_number then_close = 14
@@ -119,7 +119,7 @@ all_roles =
     ∷ (typed_code of_null + type_number int_type) ∷ (typed_code of_null + type_number nat_type) ∷ (typed_code of_null + type_number bool_type)
     ∷ (typed_code of_null + type_number (id_type [])) ∷ part_code brackets_open ∷ part_code brackets_close ∷ part_code args_open ∷ part_code args_close
     ∷ part_code no_args_close ∷ part_code pars_open ∷ part_code pars_close ∷ part_code fix_open ∷ part_code fix_close ∷ part_code steps_open
-    ∷ part_code steps_close ∷ part_code body_Open ∷ part_code body_close ∷ part_code then_open ∷ part_code then_close ∷ part_code par_comma
+    ∷ part_code steps_close ∷ part_code body_open ∷ part_code body_close ∷ part_code then_open ∷ part_code then_close ∷ part_code par_comma
     ∷ part_code arg_comma ∷ part_code barrier_sign ∷ []
 
 -- The token of a role ----------------------------------------------------------------------
@@ -136,7 +136,7 @@ part_token fix_open = sign lpar
 part_token fix_close = sign rpar
 part_token steps_open = sign lbrace
 part_token steps_close = sign rbrace
-part_token body_Open = sign lbrace
+part_token body_open = sign lbrace
 part_token body_close = sign rbrace
 part_token then_open = sign lbrace
 part_token then_close = sign rbrace
@@ -210,7 +210,7 @@ roles_pars [] k = k
 roles_pars (p ∷ ps) k = roles_par p (roles_par_list ps k)
 
 unfoldable pub roles_step : Step → List Role → List Role
-roles_step (step x b) k = naming new_step x ∷ part body_Open ∷ roles_stats b (part body_close ∷ k)
+roles_step (step x b) k = naming new_step x ∷ part body_open ∷ roles_stats b (part body_close ∷ k)
 
 unfoldable pub roles_steps : List Step → List Role → List Role
 roles_steps [] k = k

@@ -1,5 +1,6 @@
 // What the names of a text's steps and schedule stand for (02 §1), in code: tables of declarations, and the pass over the places of a text by them.
 #![tactic(auto)]
+
 mod declared;
 pub mod layout;
 pub mod looked;

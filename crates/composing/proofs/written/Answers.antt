@@ -61,7 +61,7 @@ pub returns-then-not-roomy : goal.returns-then-not-roomy
 returns-then-not-roomy c =
     let k = took c.put-p.new.out c.put-p.new.stack c.put-p.result c.literal.result c.loop-i.invariant c.loop-i-test.true c.put-p.ensures.near c.put-p.auto.out
     c.put-p.auto.stack c.literal.ensures c.put-p.ensures.result_after in
-    let long = length-set c.args.stack.now 0 0 in record { result_after = reached_refused k (sym c.roomy.ensures ∙ c.if-not-roomy.true) c.spoilt.result c.spoilt.ensures.4; place_in_bounds = ( omega (arith, c.spoilt.ensures.0, k.near.behind, k.reached.behind, k.reached.room), omega (arith, c.spoilt.ensures.1, k.near.height, k.reached.low, k.reached.high, k.reached.tall, long), ) }
+    let long = length-set c.args.stack.now 0 0 in record { result_after = reached_refused k (sym c.roomy.ensures ∙ c.if-not-roomy.true) c.spoilt.result c.spoilt.ensures.4; place_in_bounds = (omega (arith, c.spoilt.ensures.0, k.near.behind, k.reached.behind, k.reached.room), omega (arith, c.spoilt.ensures.1, k.near.height, k.reached.low, k.reached.high, k.reached.tall, long)) }
 
 pub start-i-requires-in-loop-i : goal.start-i-requires-in-loop-i
 start-i-requires-in-loop-i c =

@@ -1,4 +1,3 @@
-use Rattle.std.proofs.Common.{◌∙◌}
 use Rattle.composing.specs.LoopLaws.{Reached}
 use Rattle.composing.proofs.written.Given as goal
 

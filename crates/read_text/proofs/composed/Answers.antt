@@ -1,5 +1,5 @@
 -- `composed` meets its contract: the offsets and the bytes of types are parts of the one table.
-use Rattle.std.proofs.Common.{◌+◌, ◌≤◌, arith, ◌≡◌, ◌∙◌}
+use Rattle.std.proofs.Common.{arith, ◌∙◌}
 use Rattle.read_text.specs.MeantLaws.{within, rows_lent, composed_lent}
 use Rattle.read_text.proofs.composed.Goals as goal
 

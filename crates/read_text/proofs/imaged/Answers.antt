@@ -1,5 +1,5 @@
 -- `imaged` meets its contract: the output is too short, or the image of the stream fits it.
-use Rattle.std.proofs.Common.{arith, ◌≡◌, ◌∙◌, ⊎_elim, length}
+use Rattle.std.proofs.Common.{arith, ◌≡◌, ◌∙◌, length}
 use Rattle.blocks.specs.Images.{pieces}
 use Rattle.blocks.specs.declared.Written.TheVariants.{Blocks}
 use Rattle.read_text.specs.EndingLaws.{short_told, few_written, blocks_are, image_ends}

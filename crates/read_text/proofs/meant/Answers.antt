@@ -29,7 +29,7 @@ slice_bounds-composed-end c =
 pub composed-placed-requires : goal.composed-placed-requires
 composed-placed-requires c =
     let args = c.args in
-    let pre = c.requires.roles_len in let r = c.numbers-names in record { roles_in_bounds = (omega (arith, pre.0), omega (arith, pre.2, r.auto.stack), length-replicate {A = ℕ} output_size 0); roled = ( c.requires.roled, (count_told args.text.now args.roles.now args.out.now _ r.result r.ensures.result_after _ c.in-Count.is r.ensures.counted).1, ); rows = rows_there args.text.now args.roles.now args.out.now _ r.result r.ensures.result_after _ c.in-Count.is c.requires.roled }
+    let pre = c.requires.roles_len in let r = c.numbers-names in record { roles_in_bounds = (omega (arith, pre.0), omega (arith, pre.2, r.auto.stack), length-replicate {A = ℕ} output_size 0); roled = (c.requires.roled, (count_told args.text.now args.roles.now args.out.now _ r.result r.ensures.result_after _ c.in-Count.is r.ensures.counted).1); rows = rows_there args.text.now args.roles.now args.out.now _ r.result r.ensures.result_after _ c.in-Count.is c.requires.roled }
 
 pub returns-in_default-placed : goal.returns-in_default-placed
 returns-in_default-placed c =

@@ -15,7 +15,7 @@ use Rattle.syntax.specs.Syntax.{Par, Step, Step.step, Item, Item.execution, Item
 use Rattle.meaning.specs.Scope.{step_id}
 use Rattle.text_shape.specs.Roles.{Naming, Naming.new_step, Naming.new_local, Naming.first_read, Naming.first_written, Naming.later_variable, Naming.made}
 use Rattle.text_shape.specs.Roles.{Naming.made_statement, Naming.called, Naming.called_struct, Naming.called_step, Part.args_open, Part.args_close}
-use Rattle.text_shape.specs.Roles.{Part.no_args_close, Part.arg_comma, Part.par_comma, Part.body_Open, Part.brackets_open, Part.brackets_close, Part.fix_open}
+use Rattle.text_shape.specs.Roles.{Part.no_args_close, Part.arg_comma, Part.par_comma, Part.body_open, Part.brackets_open, Part.brackets_close, Part.fix_open}
 use Rattle.text_shape.specs.Roles.{Part.then_open, Part.then_close, Part.body_close, Part.fix_close, Part.barrier_sign, Role, Role.plain}
 use Rattle.text_shape.specs.Roles.{Role.naming, Role.typed}
 use Rattle.text_shape.specs.Roles.{Role.part, Typed.of_local, Typed.of_null}
@@ -111,7 +111,7 @@ module _ {A : Type 0} (f : List Role → A) (quiet : (r : Role) (k : List Role) 
   unfolding roles_steps roles_step inner
   steps_quiet h [] k = refl
   steps_quiet h (step x b ∷ ts) k =
-      h x _ ∙ quiet (part body_Open) _ refl ∙ stats_quiet b (part body_close ∷ roles_steps ts k) ∙ quiet (part body_close) _ refl ∙ steps_quiet h ts k
+      h x _ ∙ quiet (part body_open) _ refl ∙ stats_quiet b (part body_close ∷ roles_steps ts k) ∙ quiet (part body_close) _ refl ∙ steps_quiet h ts k
 
 -- Rows of names, or of types: each parameter, or each step, adds one
 module _ {B : Type 0} (f : List Role → List B) (quiet : (r : Role) (k : List Role) → inner r ≡ true → f (r ∷ k) ≡ f k) where
@@ -132,7 +132,7 @@ module _ {B : Type 0} (f : List Role → List B) (quiet : (r : Role) (k : List R
   steps_each h e (step x b ∷ ts) k =
       e x _
       ∙ ap (λ l. h x ∷ l)
-      (quiet (part body_Open) _ refl ∙ stats_quiet f quiet b (part body_close ∷ roles_steps ts k) ∙ quiet (part body_close) _ refl ∙ steps_each h e ts k)
+      (quiet (part body_open) _ refl ∙ stats_quiet f quiet b (part body_close ∷ roles_steps ts k) ∙ quiet (part body_close) _ refl ∙ steps_each h e ts k)
 
 -- Counts: each parameter, or each step, adds one
 module _ {A : Type 0} (f : ℕ → List Role → A) (quiet : (n : ℕ) (r : Role) (k : List Role) → inner r ≡ true → f n (r ∷ k) ≡ f n k) where
@@ -151,5 +151,5 @@ module _ {A : Type 0} (f : ℕ → List Role → A) (quiet : (n : ℕ) (r : Role
   unfolding roles_steps roles_step inner
   steps_counted e [] n k = ap (λ m. f m k) (omega arith)
   steps_counted e (step x b ∷ ts) n k =
-      e n x _ ∙ quiet (suc n) (part body_Open) _ refl ∙ stats_quiet (f (suc n)) (quiet (suc n)) b (part body_close ∷ roles_steps ts k)
+      e n x _ ∙ quiet (suc n) (part body_open) _ refl ∙ stats_quiet (f (suc n)) (quiet (suc n)) b (part body_close ∷ roles_steps ts k)
       ∙ quiet (suc n) (part body_close) _ refl ∙ steps_counted e ts (suc n) k ∙ ap (λ m. f m k) (omega arith)

@@ -17,7 +17,7 @@ use Rattle.text_shape.specs.Roles.{Typed, Typed.of_par, Typed.of_local, Typed.of
 use Rattle.text_shape.specs.Roles.{Naming.new_local, Naming.first_read, Naming.first_written, Naming.later_variable, Naming.made, Naming.made_statement}
 use Rattle.text_shape.specs.Roles.{Naming.called, Naming.called_struct, Naming.called_step}
 use Rattle.text_shape.specs.Roles.{Part, Part.brackets_open, Part.brackets_close, Part.args_open, Part.args_close, Part.no_args_close, Part.pars_open}
-use Rattle.text_shape.specs.Roles.{Part.pars_close, Part.fix_open, Part.fix_close, Part.steps_open, Part.steps_close, Part.body_Open, Part.body_close}
+use Rattle.text_shape.specs.Roles.{Part.pars_close, Part.fix_open, Part.fix_close, Part.steps_open, Part.steps_close, Part.body_open, Part.body_close}
 use Rattle.text_shape.specs.Roles.{Part.then_open, Part.then_close, Part.par_comma, Part.arg_comma, Part.barrier_sign, Role, Role.plain, Role.naming}
 use Rattle.text_shape.specs.Roles.{Role.typed}
 use Rattle.text_shape.specs.Roles.{Role.part, naming_code, typed_code, type_number, part_code, code, token_of}
@@ -63,7 +63,7 @@ part_back fix_open = refl
 part_back fix_close = refl
 part_back steps_open = refl
 part_back steps_close = refl
-part_back body_Open = refl
+part_back body_open = refl
 part_back body_close = refl
 part_back then_open = refl
 part_back then_close = refl

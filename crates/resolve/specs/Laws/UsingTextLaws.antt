@@ -12,7 +12,7 @@ use Rattle.meaning.specs.Scope.{structs_of, Local}
 use Rattle.meaning.specs.StepNames.{step_names}
 use Rattle.meaning.specs.Meant.{then, provided, literal_meaning}
 use Rattle.text_shape.specs.Roles.{Part, Part.brackets_open, Part.brackets_close, Part.args_open, Part.args_close, Part.no_args_close, Part.pars_open}
-use Rattle.text_shape.specs.Roles.{Part.pars_close, Part.fix_open, Part.fix_close, Part.steps_open, Part.steps_close, Part.body_Open, Part.body_close}
+use Rattle.text_shape.specs.Roles.{Part.pars_close, Part.fix_open, Part.fix_close, Part.steps_open, Part.steps_close, Part.body_open, Part.body_close}
 use Rattle.text_shape.specs.Roles.{Part.then_open, Part.then_close, Part.par_comma, Part.arg_comma, Part.barrier_sign, Role, Role.plain, Role.naming}
 use Rattle.text_shape.specs.Roles.{Role.typed}
 use Rattle.text_shape.specs.Roles.{Role.part, roles}
@@ -57,7 +57,7 @@ module _ (ds : List Struct) (names : List Id) where
     part_both fix_close = both s
     part_both steps_open = both s
     part_both steps_close = both s
-    part_both body_Open = both s
+    part_both body_open = both s
     part_both body_close = both (agree_none ds names s)
     part_both then_open = both (agree_opened ds names s)
     part_both then_close = dies_both s.bodies refl

@@ -18,7 +18,7 @@ use Rattle.types.specs.Limits.{nat_end}
 use Rattle.meaning.specs.Meant.{then, provided, literal_meaning}
 use Rattle.text_shape.specs.Roles.{Part.brackets_open, Part.brackets_close, Part.args_open, Part.args_close, Part.no_args_close, Part.pars_open}
 use Rattle.text_shape.specs.Roles.{Part.pars_close}
-use Rattle.text_shape.specs.Roles.{Part.fix_open, Part.fix_close, Part.steps_open, Part.steps_close, Part.body_Open, Part.body_close, Part.then_open}
+use Rattle.text_shape.specs.Roles.{Part.fix_open, Part.fix_close, Part.steps_open, Part.steps_close, Part.body_open, Part.body_close, Part.then_open}
 use Rattle.text_shape.specs.Roles.{Part.then_close, Part.par_comma, Part.arg_comma, Part.barrier_sign}
 use Rattle.resolve.specs.Digits.{digits_of, word_of, nat_at, int_at}
 use Rattle.resolve.specs.Using.{Use, live, chosen, use_goes, use_closes, use_dies, use_opens, use_part, use_token}
@@ -78,7 +78,7 @@ module _ (u : Use) where
   from_twelve (suc (suc (suc (suc (suc (suc n)))))) h i j k = refl
 
   from_six : (n : ℕ) → (n ≡ 6 → ⊥) → (n ≡ 7 → ⊥) → (n ≡ 8 → ⊥) → (n ≡ 10 → ⊥)
-      → use_part (get_or (pars_close ∷ fix_open ∷ fix_close ∷ steps_open ∷ steps_close ∷ body_Open ∷ body_close ∷ then_open ∷ then_close ∷ par_comma ∷
+      → use_part (get_or (pars_close ∷ fix_open ∷ fix_close ∷ steps_open ∷ steps_close ∷ body_open ∷ body_close ∷ then_open ∷ then_close ∷ par_comma ∷
       arg_comma ∷ barrier_sign ∷ []) n brackets_open) u ≡ some u
   unfolding use_part
   from_six zero h i j k = refl
@@ -92,7 +92,7 @@ module _ (u : Use) where
 
   from_none : (n : ℕ) → (n ≡ 3 → ⊥) → (n ≡ 4 → ⊥) → (n ≡ 12 → ⊥) → (n ≡ 13 → ⊥) → (n ≡ 14 → ⊥) → (n ≡ 16 → ⊥)
       → use_part (get_or (brackets_open ∷ brackets_close ∷ args_open ∷ args_close ∷ no_args_close ∷ pars_open ∷ pars_close ∷ fix_open ∷ fix_close ∷ steps_open
-      ∷ steps_close ∷ body_Open ∷ body_close ∷ then_open ∷ then_close ∷ par_comma ∷ arg_comma ∷ barrier_sign ∷ []) n brackets_open) u ≡ some u
+      ∷ steps_close ∷ body_open ∷ body_close ∷ then_open ∷ then_close ∷ par_comma ∷ arg_comma ∷ barrier_sign ∷ []) n brackets_open) u ≡ some u
   unfolding use_part
   from_none zero h i j k p q = refl
   from_none (suc zero) h i j k p q = refl

@@ -1,4 +1,4 @@
-use Rattle.std.proofs.Common.{◌≤◌, ◌-◌, ◌∙◌}
+use Rattle.std.proofs.Common.{◌≤◌}
 use Rattle.composing.specs.RowLaws.{RowReached}
 use Rattle.composing.proofs.header.row.Given as goal
 

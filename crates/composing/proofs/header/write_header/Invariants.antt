@@ -1,4 +1,3 @@
-use Rattle.std.proofs.Common.{◌-◌, ◌∙◌}
 use Rattle.composing.specs.RowLaws.{RowsReached}
 use Rattle.composing.proofs.header.write_header.Given as goal
 

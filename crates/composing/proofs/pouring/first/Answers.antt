@@ -1,6 +1,6 @@
 -- `pouring::first` meets its contract: one law for each mark.
-use Rattle.std.proofs.Common.{◌-◌, arith, refl, ap, ◌∙◌, length}
-use Rattle.compose.specs.Writing.{poured, pourings}
+use Rattle.std.proofs.Common.{◌-◌, arith, refl, ap, length}
+use Rattle.compose.specs.Writing.{pourings}
 use Rattle.compose.specs.Fits.{within}
 use Rattle.composing.specs.Pens.{stands}
 use Rattle.composing.specs.PutLaws.{picked, picked_none}

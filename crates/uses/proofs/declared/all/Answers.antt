@@ -1,5 +1,5 @@
 -- `declared::all` meets its contract. The loop's invariant: the places that are left complete the table. The measure is what is left of the roles.
-use Rattle.std.proofs.Common.{◌-◌, arith}
+use Rattle.std.proofs.Common.{arith}
 use Rattle.resolve.specs.Laws.TableLaws.{gathers_start, gathers_count, gathers_stored}
 use Rattle.uses.specs.Laws.AmongLaws.{declared_behind, all_left, all_on}
 use Rattle.uses.proofs.declared.all.Goals as goal

@@ -1,5 +1,5 @@
 -- `declared::gather` meets its contract. The loop's invariant: the places that are left complete the table. The measure is what is left of the places.
-use Rattle.std.proofs.Common.{◌-◌, arith, ap, ◌∙◌, length}
+use Rattle.std.proofs.Common.{arith, ap, ◌∙◌, length}
 use Rattle.std.proofs.lemmas.List.Edits.{sets}
 use Rattle.tokens.specs.Tokens.{between}
 use Rattle.resolve.specs.Laws.TableLaws.{gathers_start, gathers_count, gathers_stored}

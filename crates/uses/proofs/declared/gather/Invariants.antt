@@ -1,6 +1,5 @@
-use Rattle.std.proofs.Common.{◌-◌, ◌∙◌, length}
+use Rattle.std.proofs.Common.{◌-◌, length}
 use Rattle.resolve.specs.Laws.TableLaws.{Gathers}
-use Rattle.uses.specs.Among.{among}
 use Rattle.uses.specs.Laws.AmongLaws.{among_behind}
 use Rattle.uses.proofs.declared.gather.Given as goal
 

@@ -1,5 +1,5 @@
 -- `declared::rows` meets its contract. The loop's invariant: the rows that are left complete the table. The measure is what is left of the places.
-use Rattle.std.proofs.Common.{◌-◌, arith, ap, ◌∙◌}
+use Rattle.std.proofs.Common.{arith, ap, ◌∙◌}
 use Rattle.std.proofs.lemmas.List.Edits.{sets}
 use Rattle.resolve.specs.Tables.{offsets}
 use Rattle.resolve.specs.Laws.TableLaws.{lays_start, lays_end, lays_kept}

@@ -1,4 +1,4 @@
-use Rattle.std.proofs.Common.{◌-◌, ◌∙◌, length}
+use Rattle.std.proofs.Common.{◌-◌, length}
 use Rattle.resolve.specs.Laws.TableLaws.{Lays}
 use Rattle.uses.specs.Among.{bytes_at}
 use Rattle.uses.proofs.declared.rows.Given as goal

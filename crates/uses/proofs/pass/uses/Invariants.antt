@@ -1,4 +1,4 @@
-use Rattle.std.proofs.Common.{◌-◌, ◌∙◌, length}
+use Rattle.std.proofs.Common.{◌-◌, length}
 use Rattle.lexer.specs.Gaps.{Token}
 use Rattle.uses.specs.Laws.LoopLaws.{Reached}
 use Rattle.uses.proofs.pass.uses.Given as goal

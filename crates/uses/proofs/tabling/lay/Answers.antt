@@ -3,7 +3,6 @@ use Rattle.std.proofs.Common.{arith, rules}
 use Rattle.uses.specs.Laws.AmongLaws.{one_declares}
 use Rattle.uses.specs.Laws.LayingLaws.{room_counted, laid_long, laid_all}
 use Rattle.text_shape.specs.RoleNames.{new_struct_role, new_par_role}
-use Rattle.types.specs.Limits.{step_names}
 use Rattle.uses.proofs.tabling.lay.Goals as goal
 
 pub gather-s-requires : goal.gather-s-requires

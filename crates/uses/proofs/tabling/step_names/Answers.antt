@@ -4,7 +4,6 @@ use Rattle.resolve.specs.Laws.FirstLaws.{take_long}
 use Rattle.uses.specs.Laws.AmongLaws.{one_declares}
 use Rattle.uses.specs.Laws.TablingLaws.{gathered_not, gathered_all}
 use Rattle.text_shape.specs.RoleNames.{new_step_role}
-use Rattle.types.specs.Limits.{step_names}
 use Rattle.uses.proofs.tabling.step_names.Goals as goal
 
 pub gather-n-requires : goal.gather-n-requires
