@@ -18,7 +18,7 @@ returns-then-not-derived c =
 
 pub unnamed-requires : goal.unnamed-requires
 unnamed-requires c =
-    let d = c.derived in let args = c.args in let r = c.mark in record { roles_len = ( d.auto.kinds ∙ r.auto.kinds ∙ c.requires.kinds_len.0, c.requires.kinds_len.1, omega (arith, c.requires.kinds_len.2, r.auto.kinds, c.stuck-p.auto.stack, d.auto.kinds, d.auto.stack), ); fronted = fronted_there args.text.now args.kinds.now _ c.requires.kinds_len.1 c.requires.kinds_len.0 r.result r.ensures.value r.ensures.kinds_after (ap not c.if-not-mark.false) _ d.result d.ensures.value d.ensures.kinds_after (ap not c.if-not-derived.false) }
+    let d = c.derived in let args = c.args in let r = c.mark in record { roles_len = (d.auto.kinds ∙ r.auto.kinds ∙ c.requires.kinds_len.0, c.requires.kinds_len.1, omega (arith, c.requires.kinds_len.2, r.auto.kinds, c.stuck-p.auto.stack, d.auto.kinds, d.auto.stack)); fronted = fronted_there args.text.now args.kinds.now _ c.requires.kinds_len.1 c.requires.kinds_len.0 r.result r.ensures.value r.ensures.kinds_after (ap not c.if-not-mark.false) _ d.result d.ensures.value d.ensures.kinds_after (ap not c.if-not-derived.false) }
 
 pub returns : goal.returns
 returns c =

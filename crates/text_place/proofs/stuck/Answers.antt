@@ -1,5 +1,5 @@
 -- `stuck` meets its contract. The loop's invariant: what is left leads to the first token with which no derivation goes on. The measure is what is left.
-use Rattle.std.proofs.Common.{◌-◌, ◌<◌, arith, ◌∙◌}
+use Rattle.std.proofs.Common.{arith, ◌∙◌}
 use Rattle.text_place.specs.PlaceLaws.{goes_start, goes_end, goes_past, goes_dead, goes_on}
 use Rattle.text_place.proofs.stuck.Goals as goal
 use Rattle.text_place.proofs.stuck.Goals.{then-k-ne0+else-q-eq-DEAD, else-k-ne0}

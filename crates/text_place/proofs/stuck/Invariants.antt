@@ -1,4 +1,4 @@
-use Rattle.std.proofs.Common.{◌-◌, ◌<◌, ◌∙◌, length}
+use Rattle.std.proofs.Common.{◌-◌, length}
 use Rattle.text_place.specs.PlaceLaws.{Goes}
 use Rattle.text_place.proofs.stuck.Given as goal
 

@@ -1,5 +1,5 @@
 -- `unmarked` meets its contract. The loop's invariant: what is behind leads to the length of the marks. The measure is what is left of the text.
-use Rattle.std.proofs.Common.{◌+◌, ◌-◌, ◌≤◌, sym, ◌∙◌, arith, length}
+use Rattle.std.proofs.Common.{◌+◌, ◌≤◌, sym, ◌∙◌, arith, length}
 use Rattle.text_place.specs.PlaceLaws.{marked_start, marked_end, marked_stray, marked_inside, marked_next}
 use Rattle.text_place.proofs.unmarked.Goals as goal
 

@@ -1,4 +1,4 @@
-use Rattle.std.proofs.Common.{◌+◌, ◌-◌, ◌≤◌, ◌∙◌, length}
+use Rattle.std.proofs.Common.{◌-◌, length}
 use Rattle.text_place.specs.PlaceLaws.{MarkedTo}
 use Rattle.text_place.proofs.unmarked.Given as goal
 
