@@ -12,7 +12,8 @@ use Rattle.composing.proofs.written.Goals as goal
 took : {text roles numbers out₀ stack₀ out stack : List ℕ} {p : Pen} {i : ℕ} (out₁ stack₁ : List ℕ) (q : Pen) (v : ℕ)
     → Reached text roles numbers out₀ stack₀ out stack p i → 0 < i → Near p.place 1 1 p q → length out₁ ≡ length out → length stack₁ ≡ length stack
     → v ≡ value_at text (i - 1) (get_or roles (i - 1) 0)
-    → within (length out - margin) (stands out₁ stack₁ numbers q) ≡ within (length out - margin) (put (get_or roles (i - 1) 0) v (stands out stack numbers p))
+    → within (length out - margin) (stands out₁ stack₁ numbers q) ≡ within (length out - margin)
+        (put (get_or roles (i - 1) 0) v (stands out stack numbers p))
     → Took text roles numbers out₀ stack₀ out stack p out₁ stack₁ q i
 took out₁ stack₁ q v a b c d e f g = record { reached = a; more = b; near = c; same_out = d; same_stack = e; v = v; value = f; made = g }
 
@@ -38,7 +39,12 @@ literal-requires c =
 pub put-p-requires : goal.put-p-requires
 put-p-requires c =
     let inv = c.loop-i.invariant in
-    let further = c.loop-i-test.true in record { marks_value = c.requires.marks_value; margin_le_place = (inv.front, inv.behind, omega (arith, inv.low, inv.high, further)); left_in_bounds = (inv.rest, omega (arith, inv.short, inv.inner, further)) }
+    let further = c.loop-i-test.true in
+    record {
+      marks_value = c.requires.marks_value;
+      margin_le_place = (inv.front, inv.behind, omega (arith, inv.low, inv.high, further));
+      left_in_bounds = (inv.rest, omega (arith, inv.short, inv.inner, further));
+    }
 
 pub roomy-requires : goal.roomy-requires
 roomy-requires c = tt
@@ -48,36 +54,47 @@ spoilt-requires c = tt
 
 pub shape_of-stack-then-not-roomy : goal.shape_of-stack-then-not-roomy
 shape_of-stack-then-not-roomy c =
-    let k = took c.put-p.new.out c.put-p.new.stack c.put-p.result c.literal.result c.loop-i.invariant c.loop-i-test.true c.put-p.ensures.near c.put-p.auto.out
+    let k = took c.put-p.new.out c.put-p.new.stack c.put-p.result c.literal.result c.loop-i.invariant c.loop-i-test.true c.put-p.ensures.near
+        c.put-p.auto.out
     c.put-p.auto.stack c.literal.ensures c.put-p.ensures.result_after in
     k.same_stack ∙ k.reached.tall ∙ length-set c.args.stack.now 0 0
 
 pub shape_of-out-then-not-roomy : goal.shape_of-out-then-not-roomy
 shape_of-out-then-not-roomy c =
-    let k = took c.put-p.new.out c.put-p.new.stack c.put-p.result c.literal.result c.loop-i.invariant c.loop-i-test.true c.put-p.ensures.near c.put-p.auto.out
+    let k = took c.put-p.new.out c.put-p.new.stack c.put-p.result c.literal.result c.loop-i.invariant c.loop-i-test.true c.put-p.ensures.near
+        c.put-p.auto.out
     c.put-p.auto.stack c.literal.ensures c.put-p.ensures.result_after in k.same_out ∙ k.reached.room
 
 pub returns-then-not-roomy : goal.returns-then-not-roomy
 returns-then-not-roomy c =
-    let k = took c.put-p.new.out c.put-p.new.stack c.put-p.result c.literal.result c.loop-i.invariant c.loop-i-test.true c.put-p.ensures.near c.put-p.auto.out
+    let k = took c.put-p.new.out c.put-p.new.stack c.put-p.result c.literal.result c.loop-i.invariant c.loop-i-test.true c.put-p.ensures.near
+        c.put-p.auto.out
     c.put-p.auto.stack c.literal.ensures c.put-p.ensures.result_after in
-    let long = length-set c.args.stack.now 0 0 in record { result_after = reached_refused k (sym c.roomy.ensures ∙ c.if-not-roomy.true) c.spoilt.result c.spoilt.ensures.4; place_in_bounds = (omega (arith, c.spoilt.ensures.0, k.near.behind, k.reached.behind, k.reached.room), omega (arith, c.spoilt.ensures.1, k.near.height, k.reached.low, k.reached.high, k.reached.tall, long)) }
+    let long = length-set c.args.stack.now 0 0 in
+    record {
+      result_after = reached_refused k (sym c.roomy.ensures ∙ c.if-not-roomy.true) c.spoilt.result c.spoilt.ensures.4;
+      place_in_bounds = (omega (arith, c.spoilt.ensures.0, k.near.behind, k.reached.behind, k.reached.room), omega
+          (arith, c.spoilt.ensures.1, k.near.height, k.reached.low, k.reached.high, k.reached.tall, long));
+    }
 
 pub start-i-requires-in-loop-i : goal.start-i-requires-in-loop-i
 start-i-requires-in-loop-i c =
-    let k = took c.put-p.new.out c.put-p.new.stack c.put-p.result c.literal.result c.loop-i.invariant c.loop-i-test.true c.put-p.ensures.near c.put-p.auto.out
+    let k = took c.put-p.new.out c.put-p.new.stack c.put-p.result c.literal.result c.loop-i.invariant c.loop-i-test.true c.put-p.ensures.near
+        c.put-p.auto.out
     c.put-p.auto.stack c.literal.ensures c.put-p.ensures.result_after in omega (arith, k.reached.inner)
 
 pub loop-i-smaller : goal.loop-i-smaller
 loop-i-smaller c =
-    let k = took c.put-p.new.out c.put-p.new.stack c.put-p.result c.literal.result c.loop-i.invariant c.loop-i-test.true c.put-p.ensures.near c.put-p.auto.out
+    let k = took c.put-p.new.out c.put-p.new.stack c.put-p.result c.literal.result c.loop-i.invariant c.loop-i-test.true c.put-p.ensures.near
+        c.put-p.auto.out
     c.put-p.auto.stack c.literal.ensures c.put-p.ensures.result_after in omega (arith, k.more, c.start-i-in-loop-i.ensures.behind)
 
 pub loop-i-preserved : goal.loop-i-preserved
 loop-i-preserved c =
     let args = c.args in
     reached_gap args.text.now args.roles.now args.numbers.now args.out.now (set args.stack.now 0 0) _ _ _ c.start-i-in-loop-i.ensures
-    (reached_token (took c.put-p.new.out c.put-p.new.stack c.put-p.result c.literal.result c.loop-i.invariant c.loop-i-test.true c.put-p.ensures.near c.put-p.auto.out
+    (reached_token (took c.put-p.new.out c.put-p.new.stack c.put-p.result c.literal.result c.loop-i.invariant c.loop-i-test.true c.put-p.ensures.near
+        c.put-p.auto.out
     c.put-p.auto.stack c.literal.ensures c.put-p.ensures.result_after) (sym c.roomy.ensures ∙ c.if-not-roomy.false))
 
 pub shape_of-stack : goal.shape_of-stack
@@ -91,4 +108,10 @@ pub returns : goal.returns
 returns c =
     let args = c.args in
     let here = c.loop-i in
-    let long = length-set args.stack.now 0 0 in record { result_after = reached_end args.text.now args.roles.now args.numbers.now args.out.now (set args.stack.now 0 0) here.out here.stack here.p here.i here.invariant (omega (arith, c.loop-i-test.false)); place_in_bounds = (omega (arith, here.invariant.behind, here.invariant.room), omega (arith, here.invariant.low, here.invariant.high, here.invariant.tall, long)) }
+    let long = length-set args.stack.now 0 0 in
+    record {
+      result_after = reached_end args.text.now args.roles.now args.numbers.now args.out.now (set args.stack.now 0 0) here.out here.stack here.p here.i
+          here.invariant (omega (arith, c.loop-i-test.false));
+      place_in_bounds = (omega (arith, here.invariant.behind, here.invariant.room), omega
+          (arith, here.invariant.low, here.invariant.high, here.invariant.tall, long));
+    }

@@ -9,12 +9,16 @@ overflow_add-types_end c =
 
 pub slice_bounds-stream-end-2 : goal.slice_bounds-stream-end-2
 slice_bounds-stream-end-2 c =
-    omega (arith, (within c.args.text.now c.args.roles.now c.args.tables.now c.requires.roled.0 c.requires.rows c.requires.roled.1).1, c.requires.roled.1.booked.long)
+    omega (arith, (within c.args.text.now c.args.roles.now c.args.tables.now c.requires.roled.0 c.requires.rows c.requires.roled.1).1,
+        c.requires.roled.1.booked.long)
 
 pub stream-requires : goal.stream-requires
 stream-requires c =
     let args = c.args in
-    record { roles_in_bounds = c.requires.roles_in_bounds; rows = rows_lent args.text.now args.roles.now args.tables.now c.requires.roled.0 c.requires.rows c.requires.roled.1 }
+    record {
+      roles_in_bounds = c.requires.roles_in_bounds;
+      rows = rows_lent args.text.now args.roles.now args.tables.now c.requires.roled.0 c.requires.rows c.requires.roled.1;
+    }
 
 pub returns : goal.returns
 returns c =

@@ -6,8 +6,16 @@ use Rattle.composing.proofs.bytes.formed.Goals as goal
 
 pub returns-then-b-eq0 : goal.returns-then-b-eq0
 returns-then-b-eq0 c =
-    let args = c.args in record { by_index = λ w n. formed_none args.b (stands args.out.now w n args.p) c.if-b-eq0.true; near = near_within 1 0 0 (near_same args.p) (omega arith) (omega arith) (omega arith) }
+    let args = c.args in
+    record {
+      by_index = λ w n. formed_none args.b (stands args.out.now w n args.p) c.if-b-eq0.true;
+      near = near_within 1 0 0 (near_same args.p) (omega arith) (omega arith) (omega arith);
+    }
 
 pub returns : goal.returns
 returns c =
-    let args = c.args in record { by_index = λ w n. c.wrote.ensures.by_index w n ∙ formed_some args.b (stands args.out.now w n args.p) c.if-b-eq0.false; near = c.wrote.ensures.place_value.1 }
+    let args = c.args in
+    record {
+      by_index = λ w n. c.wrote.ensures.by_index w n ∙ formed_some args.b (stands args.out.now w n args.p) c.if-b-eq0.false;
+      near = c.wrote.ensures.place_value.1;
+    }

@@ -8,4 +8,8 @@ use Rattle.composing.proofs.bytes.lengthened.Goals as goal
 pub returns : goal.returns
 unfolding stands lengthened
 returns c =
-    let p = c.args.p in record { by_index = λ s w n. ap (λ l. writing (drop p.place s) (held w p.height) (held n p.left) l p.fits) (add-one p.later); place_value = (refl, record { front = omega arith; behind = omega arith; height = omega arith; left = omega arith; later = omega arith }) }
+    let p = c.args.p in
+    record {
+      by_index = λ s w n. ap (λ l. writing (drop p.place s) (held w p.height) (held n p.left) l p.fits) (add-one p.later);
+      place_value = (refl, record { front = omega arith; behind = omega arith; height = omega arith; left = omega arith; later = omega arith });
+    }

@@ -10,4 +10,9 @@ pub returns : goal.returns
 unfolding stands wrote
 returns c =
     let args = c.args in
-    let p = args.p in record { by_index = λ w n. ap (λ s. writing s (held w p.height) (held n p.left) p.later p.fits) (drop_front args.out.now p.place args.b (omega arith) (omega arith)); place_value = (omega arith, record { front = omega arith; behind = omega arith; height = omega arith; left = omega arith; later = omega arith }) }
+    let p = args.p in
+    record {
+      by_index = λ w n. ap (λ s. writing s (held w p.height) (held n p.left) p.later p.fits)
+          (drop_front args.out.now p.place args.b (omega arith) (omega arith));
+      place_value = (omega arith, record { front = omega arith; behind = omega arith; height = omega arith; left = omega arith; later = omega arith });
+    }

@@ -29,4 +29,8 @@ returns c =
     let args = c.args in
     let here = c.loop-i in
     let ended : RowReached args.out.now args.types.now here.out args.place args.b here.p args.a =
-    row_left args.out.now args.types.now here.out args.place args.b here.p here.i args.a (omega arith) here.invariant.1 in record { out_after = row_end args.out.now args.types.now here.out args.place args.b here.p args.a ended (omega arith) (omega arith) (omega arith); b_value = omega arith }
+    row_left args.out.now args.types.now here.out args.place args.b here.p here.i args.a (omega arith) here.invariant.1 in
+    record {
+      out_after = row_end args.out.now args.types.now here.out args.place args.b here.p args.a ended (omega arith) (omega arith) (omega arith);
+      b_value = omega arith;
+    }

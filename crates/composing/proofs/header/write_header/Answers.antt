@@ -11,7 +11,12 @@ loop-k-init c =
 pub row-p-requires : goal.row-p-requires
 row-p-requires c =
     let args = c.args in
-    let here = c.loop-k in record { a_le_b = row_fits args.out.now args.offsets.now args.types.now here.out args.place here.p here.k here.invariant c.loop-k-test.true c.requires.2 c.requires.0 c.requires.1; by_index = c.requires.2.bytes }
+    let here = c.loop-k in
+    record {
+      a_le_b = row_fits args.out.now args.offsets.now args.types.now here.out args.place here.p here.k here.invariant c.loop-k-test.true c.requires.2
+          c.requires.0 c.requires.1;
+      by_index = c.requires.2.bytes;
+    }
 
 pub loop-k-preserved : goal.loop-k-preserved
 loop-k-preserved c =
@@ -30,4 +35,9 @@ shape_of-out c =
 pub returns : goal.returns
 returns c =
     let args = c.args in
-    let here = c.loop-k in record { out_after = rows_end args.out.now args.offsets.now args.types.now here.out args.place here.p here.k here.invariant (omega arith) (omega arith) (omega arith); upper_bound = omega arith }
+    let here = c.loop-k in
+    record {
+      out_after = rows_end args.out.now args.offsets.now args.types.now here.out args.place here.p here.k here.invariant (omega arith) (omega arith)
+          (omega arith);
+      upper_bound = omega arith;
+    }

@@ -11,15 +11,30 @@ use Rattle.composing.proofs.pouring.first.Goals as goal
 pub returns-in-1 : goal.returns-in-1
 unfolding pourings
 returns-in-1 c =
-    let args = c.args in record { by_index = λ n. picked (within (length args.out.now - margin)) (pourings args.o) (stands args.out.now args.stack.now n args.p) c.in-1.is (c.begun.ensures.by_index n); poured = c.begun.ensures.poured }
+    let args = c.args in
+    record {
+      by_index = λ n. picked (within (length args.out.now - margin)) (pourings args.o) (stands args.out.now args.stack.now n args.p) c.in-1.is
+          (c.begun.ensures.by_index n);
+      poured = c.begun.ensures.poured;
+    }
 
 pub returns-in-2 : goal.returns-in-2
 unfolding pourings
 returns-in-2 c =
-    let args = c.args in record { by_index = λ n. picked (within (length args.out.now - margin)) (pourings args.o) (stands args.out.now args.stack.now n args.p) c.in-2.is (rw c.tightness.ensures at (c.poured.ensures.by_index n)); poured = c.poured.ensures.poured }
+    let args = c.args in
+    record {
+      by_index = λ n. picked (within (length args.out.now - margin)) (pourings args.o) (stands args.out.now args.stack.now n args.p) c.in-2.is
+          (rw c.tightness.ensures at (c.poured.ensures.by_index n));
+      poured = c.poured.ensures.poured;
+    }
 
 pub returns-in_default : goal.returns-in_default
 unfolding pourings
 returns-in_default c =
     let args = c.args in
-    let none = c.in_default.in_default-own.rest in record { by_index = λ n. ap (within (length args.out.now - margin)) (picked_none (pourings args.o) args.mark (stands args.out.now args.stack.now n args.p) refl (λ l. omega (arith, l, none.0.1, none.1))); poured = poured_same args.p c.requires.0 }
+    let none = c.in_default.in_default-own.rest in
+    record {
+      by_index = λ n. ap (within (length args.out.now - margin)) (picked_none (pourings args.o) args.mark (stands args.out.now args.stack.now n args.p)
+          refl (λ l. omega (arith, l, none.0.1, none.1)));
+      poured = poured_same args.p c.requires.0;
+    }

@@ -23,7 +23,11 @@ shape_of-out-then-tightness-t c = c.loop-h.invariant.same
 -- one that waits is not tighter
 pub returns-then-tightness-t : goal.returns-then-tightness-t
 returns-then-tightness-t c =
-    let inv = c.loop-h.invariant in record { by_index = pouring_stops inv c.loop-h-test.true (omega (arith, c.tightness.ensures, c.if-tightness-t.true)); poured = poured_at inv }
+    let inv = c.loop-h.invariant in
+    record {
+      by_index = pouring_stops inv c.loop-h-test.true (omega (arith, c.tightness.ensures, c.if-tightness-t.true));
+      poured = poured_at inv;
+    }
 
 pub spoilt-requires : goal.spoilt-requires
 spoilt-requires c = tt
@@ -34,7 +38,12 @@ shape_of-out-then-at-le-MARGIN c = c.loop-h.invariant.same
 -- there is no room for one more
 pub returns-then-at-le-MARGIN : goal.returns-then-at-le-MARGIN
 returns-then-at-le-MARGIN c =
-    let inv = c.loop-h.invariant in record { by_index = pouring_over inv c.loop-h-test.true (omega (arith, c.tightness.ensures, c.if-tightness-t.false)) c.if-at-le-MARGIN.true c.spoilt.result c.spoilt.ensures; poured = poured_spoilt inv c.spoilt.result c.spoilt.ensures }
+    let inv = c.loop-h.invariant in
+    record {
+      by_index = pouring_over inv c.loop-h-test.true (omega (arith, c.tightness.ensures, c.if-tightness-t.false)) c.if-at-le-MARGIN.true
+          c.spoilt.result c.spoilt.ensures;
+      poured = poured_spoilt inv c.spoilt.result c.spoilt.ensures;
+    }
 
 pub overflow_sub-at : goal.overflow_sub-at
 overflow_sub-at c = omega (arith, c.if-at-le-MARGIN.false)

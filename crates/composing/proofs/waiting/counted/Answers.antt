@@ -11,7 +11,12 @@ unfolding stands
 returns-then-h-eq0 c =
     let args = c.args in
     let p = args.p in
-    let e = c.spoilt.ensures in record { by_index = λ n. spoilt_stands args.out.now args.stack.now n p c.spoilt.result e ∙ counted_none (drop p.place args.out.now) args.stack.now (held n p.left) p.height p.later p.fits c.if-h-eq0.true; height_le_height = (omega (arith, e.1), near_within 1 0 0 (near_spoilt p c.spoilt.result e) (omega arith) (omega arith) (omega arith)) }
+    let e = c.spoilt.ensures in
+    record {
+      by_index = λ n. spoilt_stands args.out.now args.stack.now n p c.spoilt.result e ∙ counted_none (drop p.place args.out.now) args.stack.now
+          (held n p.left) p.height p.later p.fits c.if-h-eq0.true;
+      height_le_height = (omega (arith, e.1), near_within 1 0 0 (near_spoilt p c.spoilt.result e) (omega arith) (omega arith) (omega arith));
+    }
 
 pub returns : goal.returns
 unfolding stands
@@ -19,4 +24,11 @@ returns c =
     let args = c.args in
     let p = args.p in
     let q = c.popped.result in
-    let e = c.popped.ensures in record { by_index = λ n. c.wrote.ensures.by_index args.stack.now n ∙ ap (wrote (get_or args.stack.now (p.height - 1) 0)) (popped_stands args.out.now args.stack.now n p q e) ∙ counted_on (drop p.place args.out.now) args.stack.now (held n p.left) p.height p.later p.fits c.if-h-eq0.false; height_le_height = (omega (arith, e.1, c.wrote.ensures.place_value.1.height), near_then 1 0 0 (near_popped p q e) c.wrote.ensures.place_value.1 (omega arith) (omega arith) (omega arith)) }
+    let e = c.popped.ensures in
+    record {
+      by_index = λ n. c.wrote.ensures.by_index args.stack.now n ∙ ap (wrote (get_or args.stack.now (p.height - 1) 0))
+          (popped_stands args.out.now args.stack.now n p q e) ∙ counted_on (drop p.place args.out.now) args.stack.now (held n p.left) p.height p.later
+          p.fits c.if-h-eq0.false;
+      height_le_height = (omega (arith, e.1, c.wrote.ensures.place_value.1.height), near_then 1 0 0 (near_popped p q e) c.wrote.ensures.place_value.1
+          (omega arith) (omega arith) (omega arith));
+    }

@@ -11,17 +11,32 @@ unfolding stands
 returns-then-h-eq0 c =
     let args = c.args in
     let p = args.p in
-    let e = c.spoilt.ensures in record { by_index = λ s n. ap kept (spoilt_stands s args.stack.now n p c.spoilt.result e ∙ more_none (drop p.place s) args.stack.now (held n p.left) p.height p.later p.fits args.limit c.if-h-eq0.true); near = near_spoilt p c.spoilt.result e }
+    let e = c.spoilt.ensures in
+    record {
+      by_index = λ s n. ap kept (spoilt_stands s args.stack.now n p c.spoilt.result e ∙ more_none (drop p.place s) args.stack.now (held n p.left)
+          p.height p.later p.fits args.limit c.if-h-eq0.true);
+      near = near_spoilt p c.spoilt.result e;
+    }
 
 pub returns-then-c-limit : goal.returns-then-c-limit
 unfolding stands
 returns-then-c-limit c =
     let args = c.args in
     let p = args.p in
-    let e = c.spoilt-then-c-limit.ensures in record { by_index = λ s n. ap kept (spoilt_stands s args.stack.now n p c.spoilt-then-c-limit.result e) ∙ more_over (drop p.place s) args.stack.now (held n p.left) p.height p.later p.fits c.if-h-eq0.false args.limit c.if-c-limit.true; near = near_spoilt p c.spoilt-then-c-limit.result e }
+    let e = c.spoilt-then-c-limit.ensures in
+    record {
+      by_index = λ s n. ap kept (spoilt_stands s args.stack.now n p c.spoilt-then-c-limit.result e) ∙ more_over (drop p.place s) args.stack.now
+          (held n p.left) p.height p.later p.fits c.if-h-eq0.false args.limit c.if-c-limit.true;
+      near = near_spoilt p c.spoilt-then-c-limit.result e;
+    }
 
 pub returns : goal.returns
 unfolding stands
 returns c =
     let args = c.args in
-    let p = args.p in record { by_index = λ s n. ap kept (more_within (drop p.place s) args.stack.now (held n p.left) p.height p.later p.fits c.if-h-eq0.false args.limit (omega arith) c.if-c-limit.false); near = near_same p }
+    let p = args.p in
+    record {
+      by_index = λ s n. ap kept (more_within (drop p.place s) args.stack.now (held n p.left) p.height p.later p.fits c.if-h-eq0.false args.limit
+          (omega arith) c.if-c-limit.false);
+      near = near_same p;
+    }

@@ -1,7 +1,7 @@
 -- `choice::picked_of` meets its contract: what the search finds among the records is the holder.
 use Rattle.std.proofs.Common.{◌%◌, ◌<◌, ◌∙◌, ap, sym, subst}
 use Rattle.holders.specs.Records.{holder_in}
-use Rattle.holders.specs.RecordsLaws.{picked_in}
+use Rattle.holders.proofs.RecordsLaws.{picked_in}
 use Rattle.trace_lines.proofs.choice.picked_of.Goals as goal
 
 pub returns : goal.returns

@@ -36,4 +36,8 @@ pub returns : goal.returns
 returns c =
     let e = ap (among _ _ _) c.requires.0 ∙ among_declared _ _ _ c.requires.1 in
     let inv = c.loop-i.invariant in
-    let left = picks_left _ _ _ _ c.loop-i-test.false in record { value = gathers_count inv left ∙ ap length e; table_after = gathers_stored inv left ∙ ap (sets _ 0) e }
+    let left = picks_left _ _ _ _ c.loop-i-test.false in
+    record {
+      value = gathers_count inv left ∙ ap length e;
+      table_after = gathers_stored inv left ∙ ap (sets _ 0) e;
+    }

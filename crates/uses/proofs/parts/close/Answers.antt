@@ -11,8 +11,15 @@ returns-then-d-eq0 c =
 
 pub returns-then-m-n : goal.returns-then-m-n
 returns-then-m-n c =
-    record { by_index = λ x l o. close_other x l c.args.stack.now o c.args.c c.args.n c.if-d-eq0.false c.if-m-n.true; by_index_2 = λ t l r. next_stop t l c.args.c r }
+    record {
+      by_index = λ x l o. close_other x l c.args.stack.now o c.args.c c.args.n c.if-d-eq0.false c.if-m-n.true;
+      by_index_2 = λ t l r. next_stop t l c.args.c r;
+    }
 
 pub returns : goal.returns
 returns c =
-    record { by_index = λ x l o. ap (λ d. passed_in x l c.args.stack.now (On d) o) c.dued.ensures ∙ close_one x l c.args.stack.now o c.args.c c.args.n c.if-d-eq0.false c.if-m-n.false; by_index_2 = λ t l r. rw c.dued.ensures (next_dued t l c.args.c r (c.args.c.dues - 1) (omega arith)) }
+    record {
+      by_index = λ x l o. ap (λ d. passed_in x l c.args.stack.now (On d) o) c.dued.ensures ∙ close_one x l c.args.stack.now o c.args.c c.args.n
+          c.if-d-eq0.false c.if-m-n.false;
+      by_index_2 = λ t l r. rw c.dued.ensures (next_dued t l c.args.c r (c.args.c.dues - 1) (omega arith));
+    }

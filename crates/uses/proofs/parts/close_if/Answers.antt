@@ -15,9 +15,19 @@ overflow_cast-n c = omega (arith, c.type_inv.stack (length c.args.stack.now - c.
 pub returns-then-n-living : goal.returns-then-n-living
 returns-then-n-living c =
     let k = c.args.stack.now in
-    let s = c.args.c in record { o_value = λ x t l o r. ap (λ d. passed_in x l k (On d) o) c.lived.ensures ∙ shut_less x l k o s r c.if-b-eq0.false c.requires c.if-n-living.true; by_index = λ t l r. rw c.lived.ensures (next_lived t l s r s.met (get_or k (length k - s.bodies) 0) (s.bodies - 1) r.met (omega (arith, r.living, c.if-n-living.true)) (omega (arith, c.if-n-living.true)) (omega arith)) }
+    let s = c.args.c in
+    record {
+      o_value = λ x t l o r. ap (λ d. passed_in x l k (On d) o) c.lived.ensures ∙ shut_less x l k o s r c.if-b-eq0.false c.requires c.if-n-living.true;
+      by_index = λ t l r. rw c.lived.ensures (next_lived t l s r s.met (get_or k (length k - s.bodies) 0) (s.bodies - 1) r.met
+          (omega (arith, r.living, c.if-n-living.true)) (omega (arith, c.if-n-living.true)) (omega arith));
+    }
 
 pub returns : goal.returns
 returns c =
     let k = c.args.stack.now in
-    let s = c.args.c in record { o_value = λ x t l o r. ap (λ d. passed_in x l k (On d) o) c.lived-2.ensures ∙ shut_all x l k o s r c.if-b-eq0.false c.requires c.if-n-living.false; by_index = λ t l r. rw c.lived-2.ensures (next_lived t l s r s.met s.living (s.bodies - 1) r.met r.living (omega arith) (omega arith)) }
+    let s = c.args.c in
+    record {
+      o_value = λ x t l o r. ap (λ d. passed_in x l k (On d) o) c.lived-2.ensures ∙ shut_all x l k o s r c.if-b-eq0.false c.requires
+          c.if-n-living.false;
+      by_index = λ t l r. rw c.lived-2.ensures (next_lived t l s r s.met s.living (s.bodies - 1) r.met r.living (omega arith) (omega arith));
+    }

@@ -49,7 +49,16 @@ unfolding Counted stop_in
 returns-in-Stop c =
     let inv = c.loop-i.invariant in
     let same = c.requires.roles_len.0 in
-    let stop = c.in-Stop.is in record { result_after = token_stop same inv.0 inv.1 c.loop-i-test.true _ _ _ c.use_at.ensures.by_index c.use_at.ensures.next c.use_at.ensures.stack_len_unchanged _ _ stop; counted = tt; roles_value = (token_here same inv.0 inv.1 c.loop-i-test.true _ _ _ c.use_at.ensures.by_index c.use_at.ensures.next c.use_at.ensures.stack_len_unchanged stop, omega (arith, c.loop-i-test.true)); stack_len_unchanged = (c.use_at.ensures.stack_len_unchanged.0 ∙ inv.0.stack, c.use_at.ensures.stack_len_unchanged.1 ∙ inv.0.locals, inv.0.numbers) }
+    let stop = c.in-Stop.is in
+    record {
+      result_after = token_stop same inv.0 inv.1 c.loop-i-test.true _ _ _ c.use_at.ensures.by_index c.use_at.ensures.next
+          c.use_at.ensures.stack_len_unchanged _ _ stop;
+      counted = tt;
+      roles_value = (token_here same inv.0 inv.1 c.loop-i-test.true _ _ _ c.use_at.ensures.by_index c.use_at.ensures.next
+          c.use_at.ensures.stack_len_unchanged stop, omega (arith, c.loop-i-test.true));
+      stack_len_unchanged = (c.use_at.ensures.stack_len_unchanged.0 ∙ inv.0.stack, c.use_at.ensures.stack_len_unchanged.1 ∙ inv.0.locals,
+          inv.0.numbers);
+    }
 
 pub loop-i-smaller-in-On : goal.loop-i-smaller-in-On
 loop-i-smaller-in-On c =
@@ -59,7 +68,8 @@ pub loop-i-preserved-in-On : goal.loop-i-preserved-in-On
 loop-i-preserved-in-On c =
     let inv = c.loop-i.invariant in
     let next = c.next-i.ensures in (
-      token_on c.requires.roles_len.0 inv.0 inv.1 c.loop-i-test.true _ _ _ c.use_at.ensures.by_index c.use_at.ensures.next c.use_at.ensures.stack_len_unchanged
+      token_on c.requires.roles_len.0 inv.0 inv.1 c.loop-i-test.true _ _ _ c.use_at.ensures.by_index c.use_at.ensures.next
+          c.use_at.ensures.stack_len_unchanged
           c.in-On.is next.0,
       next.1,
     )
@@ -82,7 +92,8 @@ loop-i-preserved c =
     let pre = c.requires.roles_len in
     let inv = c.loop-i.invariant in
     let next = c.next-i.ensures in (
-      token_left pre.0 inv.0 inv.1 c.loop-i-test.true _ _ _ c.use_at.ensures.by_index c.use_at.ensures.next c.use_at.ensures.stack_len_unchanged c.in-Left.is next.0 pre.2,
+      token_left pre.0 inv.0 inv.1 c.loop-i-test.true _ _ _ c.use_at.ensures.by_index c.use_at.ensures.next c.use_at.ensures.stack_len_unchanged
+          c.in-Left.is next.0 pre.2,
       next.1,
     )
 
@@ -100,4 +111,10 @@ unfolding Counted stop_in
 returns c =
     let a = c.args in
     let inv = c.loop-i.invariant.0 in
-    let pre = c.requires.roles_len in record { result_after = reached_end a.text.now a.roles.now a.tables.now a.locals.now a.stack.now a.numbers.now pre.0 inv c.loop-i-test.false; counted = (omega (arith, inv.few, inv.inner, inv.numbers, pre.2), tt); roles_value = (stopped_end a.text.now a.roles.now a.tables.now a.locals.now a.stack.now a.numbers.now pre.0 inv c.loop-i-test.false, omega arith); stack_len_unchanged = (inv.stack, inv.locals, inv.numbers) }
+    let pre = c.requires.roles_len in
+    record {
+      result_after = reached_end a.text.now a.roles.now a.tables.now a.locals.now a.stack.now a.numbers.now pre.0 inv c.loop-i-test.false;
+      counted = (omega (arith, inv.few, inv.inner, inv.numbers, pre.2), tt);
+      roles_value = (stopped_end a.text.now a.roles.now a.tables.now a.locals.now a.stack.now a.numbers.now pre.0 inv c.loop-i-test.false, omega arith);
+      stack_len_unchanged = (inv.stack, inv.locals, inv.numbers);
+    }

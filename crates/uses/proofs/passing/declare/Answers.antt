@@ -11,14 +11,24 @@ returns-then-not-unused c =
     let x = c.args.text.now in
     let t = c.args.tables.now in
     let l = c.args.locals.now in
-    let s = c.args.c in record { by_index = λ k o. declare_not x t l s c.requires.1 c.args.at c.unused.result c.unused.ensures k o c.if-not-unused.true; next = next_stop t l s c.requires.1; locals_len_unchanged = refl }
+    let s = c.args.c in
+    record {
+      by_index = λ k o. declare_not x t l s c.requires.1 c.args.at c.unused.result c.unused.ensures k o c.if-not-unused.true;
+      next = next_stop t l s c.requires.1;
+      locals_len_unchanged = refl;
+    }
 
 pub returns-then-met : goal.returns-then-met
 returns-then-met c =
     let x = c.args.text.now in
     let t = c.args.tables.now in
     let l = c.args.locals.now in
-    let s = c.args.c in record { by_index = λ k o. declare_full x t l s c.requires.1 c.args.at c.unused.result c.unused.ensures k o c.if-not-unused.false c.if-met.true; next = next_stop t l s c.requires.1; locals_len_unchanged = refl }
+    let s = c.args.c in
+    record {
+      by_index = λ k o. declare_full x t l s c.requires.1 c.args.at c.unused.result c.unused.ensures k o c.if-not-unused.false c.if-met.true;
+      next = next_stop t l s c.requires.1;
+      locals_len_unchanged = refl;
+    }
 
 pub returns : goal.returns
 returns c =
@@ -26,4 +36,11 @@ returns c =
     let t = c.args.tables.now in
     let l = c.args.locals.now in
     let s = c.args.c in
-    let r = c.requires.1 in record { by_index = λ k o. ap (λ z. passed_in x z k (Left (declaring s) (8 + s.met)) o) c.store.ensures ∙ declare_one x t l s r c.args.at c.unused.result c.unused.ensures k o c.if-not-unused.false c.if-met.false; next = rw c.store.ensures (next_declared x t l s r c.args.at c.unused.result c.unused.ensures c.if-met.false (8 + s.met)); locals_len_unchanged = ap length c.store.ensures ∙ long_stored l r.long c.args.at s.met (s.living - s.fresh) s.typ c.if-met.false (omega (arith, r.living, c.if-met.false)) ∙ sym r.long }
+    let r = c.requires.1 in
+    record {
+      by_index = λ k o. ap (λ z. passed_in x z k (Left (declaring s) (8 + s.met)) o) c.store.ensures ∙ declare_one x t l s r c.args.at c.unused.result
+          c.unused.ensures k o c.if-not-unused.false c.if-met.false;
+      next = rw c.store.ensures (next_declared x t l s r c.args.at c.unused.result c.unused.ensures c.if-met.false (8 + s.met));
+      locals_len_unchanged = ap length c.store.ensures ∙ long_stored l r.long c.args.at s.met (s.living - s.fresh) s.typ c.if-met.false
+          (omega (arith, r.living, c.if-met.false)) ∙ sym r.long;
+    }

@@ -9,19 +9,40 @@ use Rattle.uses.proofs.passing.declared_name.Goals as goal
 pub returns-in-39 : goal.returns-in-39
 returns-in-39 c =
     let a = c.args in
-    let y = name_at a.text.now a.at in record { by_index = λ k o. c.begin.ensures.o_value a.text.now y a.locals.now k o ∙ name_struct a.text.now a.tables.now a.locals.now k o a.c y a.role c.in-39.is; next = c.begin.ensures.by_index a.locals.now c.requires.1; locals_len_unchanged = refl }
+    let y = name_at a.text.now a.at in
+    record {
+      by_index = λ k o. c.begin.ensures.o_value a.text.now y a.locals.now k o ∙ name_struct a.text.now a.tables.now a.locals.now k o a.c y a.role
+          c.in-39.is;
+      next = c.begin.ensures.by_index a.locals.now c.requires.1;
+      locals_len_unchanged = refl;
+    }
 
 pub returns-in-40 : goal.returns-in-40
 returns-in-40 c =
-    let a = c.args in record { by_index = λ k o. name_par a.text.now a.tables.now a.locals.now k o a.c (name_at a.text.now a.at) a.role c.in-40.is; next = next_same a.tables.now a.locals.now a.c c.requires.1; locals_len_unchanged = refl }
+    let a = c.args in
+    record {
+      by_index = λ k o. name_par a.text.now a.tables.now a.locals.now k o a.c (name_at a.text.now a.at) a.role c.in-40.is;
+      next = next_same a.tables.now a.locals.now a.c c.requires.1;
+      locals_len_unchanged = refl;
+    }
 
 pub returns-in-41 : goal.returns-in-41
 returns-in-41 c =
-    let a = c.args in record { by_index = λ k o. name_step a.text.now a.tables.now a.locals.now k o a.c (name_at a.text.now a.at) a.role c.in-41.is c.called.ensures c.left.ensures; next = rw c.left.ensures (next_seen a.tables.now a.locals.now a.c c.requires.1 c.called.result); locals_len_unchanged = refl }
+    let a = c.args in
+    record {
+      by_index = λ k o. name_step a.text.now a.tables.now a.locals.now k o a.c (name_at a.text.now a.at) a.role c.in-41.is c.called.ensures
+          c.left.ensures;
+      next = rw c.left.ensures (next_seen a.tables.now a.locals.now a.c c.requires.1 c.called.result);
+      locals_len_unchanged = refl;
+    }
 
 pub returns-in_default : goal.returns-in_default
 returns-in_default c =
     let a = c.args in
     let rest = c.in_default.in_default-own.rest in
     let e : a.role ≡ new_local_role = omega (arith, c.requires.2, c.requires.3, rest.0.0.1, rest.0.1, rest.1) in
-    record { by_index = λ k o. c.declare.ensures.by_index k o ∙ name_local a.text.now a.tables.now a.locals.now k o a.c (name_at a.text.now a.at) a.role e; next = c.declare.ensures.next; locals_len_unchanged = c.declare.ensures.locals_len_unchanged }
+    record {
+      by_index = λ k o. c.declare.ensures.by_index k o ∙ name_local a.text.now a.tables.now a.locals.now k o a.c (name_at a.text.now a.at) a.role e;
+      next = c.declare.ensures.next;
+      locals_len_unchanged = c.declare.ensures.locals_len_unchanged;
+    }

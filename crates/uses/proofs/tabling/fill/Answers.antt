@@ -8,7 +8,11 @@ use Rattle.uses.proofs.tabling.fill.Goals as goal
 
 pub returns-then-n-gt-ALL_MANY : goal.returns-then-n-gt-ALL_MANY
 returns-then-n-gt-ALL_MANY c =
-    record { value = fill_many _ _ c.requires.1 c.all-n.ensures.value c.if-n-gt-ALL_MANY.true; tabled = λ e. absurd (false≢true e); table_len_unchanged = refl }
+    record {
+      value = fill_many _ _ c.requires.1 c.all-n.ensures.value c.if-n-gt-ALL_MANY.true;
+      tabled = λ e. absurd (false≢true e);
+      table_len_unchanged = refl;
+    }
 
 pub slice_bounds-filled-end : goal.slice_bounds-filled-end
 slice_bounds-filled-end c = take_long _ _ (omega (arith, c.all-n.auto.table, c.if-n-gt-ALL_MANY.false))

@@ -16,4 +16,9 @@ par_types-requires c =
 pub returns : goal.returns
 returns c =
     let m = c.par_types.new.table in
-    let is = c.if-not-well.false in record { value = fill_known _ _ c.well.ensures is c.par_types.ensures.value; tabled = fill_tabled m c.lay.ensures c.par_types.auto.table c.requires.1 c.well.ensures is c.par_types.ensures.table_after; table_len_unchanged = typed_long m c.lay.ensures c.par_types.auto.table ∙ c.lay.auto.table }
+    let is = c.if-not-well.false in
+    record {
+      value = fill_known _ _ c.well.ensures is c.par_types.ensures.value;
+      tabled = fill_tabled m c.lay.ensures c.par_types.auto.table c.requires.1 c.well.ensures is c.par_types.ensures.table_after;
+      table_len_unchanged = typed_long m c.lay.ensures c.par_types.auto.table ∙ c.lay.auto.table;
+    }

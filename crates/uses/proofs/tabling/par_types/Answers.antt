@@ -29,4 +29,9 @@ types-requires c =
 pub returns : goal.returns
 returns c =
     let pre = c.requires.roles_len_bound in
-    record { value = types_tested _ _ _ _ pre.0 pre.1 c.gather-s.ensures.value c.gather-s.ensures.table_after refl c.gather-n.ensures.value c.gather-n.ensures.table_after refl c.types.ensures.value; table_after = λ e. types_stored _ _ _ _ pre.0 pre.1 c.gather-s.ensures.value c.gather-s.ensures.table_after refl c.gather-n.ensures.value c.gather-n.ensures.table_after refl _ (c.types.ensures.table_after e) }
+    record {
+      value = types_tested _ _ _ _ pre.0 pre.1 c.gather-s.ensures.value c.gather-s.ensures.table_after refl c.gather-n.ensures.value
+          c.gather-n.ensures.table_after refl c.types.ensures.value;
+      table_after = λ e. types_stored _ _ _ _ pre.0 pre.1 c.gather-s.ensures.value c.gather-s.ensures.table_after refl c.gather-n.ensures.value
+          c.gather-n.ensures.table_after refl _ (c.types.ensures.table_after e);
+    }
