@@ -1,7 +1,6 @@
 -- `accepted` is safe: the parameters of a program that was admitted are lent, and memory as long as seating asks for.
-use Rattle.std.proofs.Common.{ℕ, arith, sym, ◌∙◌, List, take}
+use Rattle.std.proofs.Common.{arith, sym, ◌∙◌, take}
 use Rattle.std.proofs.lemmas.List.{length-replicate}
-use Rattle.load.specs.declared.Loaded.{Loaded}
 use Rattle.load.specs.LoadLaws.{LoadedAs, load_value, structs_few, types_are, admitted}
 use Rattle.audala_table.proofs.accepted.Goals as goal
 
