@@ -1,9 +1,5 @@
 pub mod Trace
-pub mod TraceLaws
 pub mod LineText
-pub mod TraceStepLaws
 pub mod TraceText
-pub mod TraceTextLaws
 pub mod TracePage
-pub mod TracePageLaws
 pub mod TraceRows

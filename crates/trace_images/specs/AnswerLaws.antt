@@ -11,9 +11,9 @@ use Rattle.run.specs.Run.{Outcome.stopped, run}
 use Rattle.trace.specs.Trace.{trace}
 use Rattle.trace.specs.LineText.{trace_lines, end_text}
 use Rattle.trace.specs.TraceText.{trace_text}
-use Rattle.trace.specs.TraceTextLaws.{refused_text, many_text, begun_run_text}
+use Rattle.trace.proofs.TraceTextLaws.{refused_text, many_text, begun_run_text}
 use Rattle.trace.specs.TracePage.{traced_number, traced_turns}
-use Rattle.trace.specs.TracePageLaws.{refused_stop, many_stop, begun_run_stop}
+use Rattle.trace.proofs.TracePageLaws.{refused_stop, many_stop, begun_run_stop}
 use Rattle.trace_images.specs.declared.Traced.{Traced}
 use Rattle.trace_images.specs.Pages.{Answered}
 

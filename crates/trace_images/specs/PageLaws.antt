@@ -11,7 +11,7 @@ use Rattle.std.proofs.Math.Seq.{take-length, drop-length}
 use Rattle.block.specs.Put.{put}
 use Rattle.text.specs.Listing.{Placed}
 use Rattle.trace.specs.TracePage.{page, paged}
-use Rattle.trace.specs.TracePageLaws.{paged_none, page_end, page_end_is, page_end_within, page_part, paged_more, paged_length}
+use Rattle.trace.proofs.TracePageLaws.{paged_none, page_end, page_end_is, page_end_within, page_part, paged_more, paged_length}
 use Rattle.trace_images.specs.declared.Traced.{Traced}
 use Rattle.trace_images.specs.declared.pages.Page.{Page}
 use Rattle.trace_images.specs.Pages.{blank, longer, Paged, Grows, traced, Answered}

@@ -21,7 +21,7 @@ use Rattle.interpreter.specs.Laws.TurnLaws.{none_hold, some_hold, ends, lasts}
 use Rattle.interpreter.specs.Laws.VisitWays.{visits_outcome}
 use Rattle.trace.specs.Trace.{trace}
 use Rattle.trace.specs.LineText.{lines_text, trace_lines}
-use Rattle.trace.specs.TraceTextLaws.{text_stops, text_ends}
+use Rattle.trace.proofs.TraceTextLaws.{text_stops, text_ends}
 use Rattle.trace_images.specs.declared.telling.Start.{Start}
 use Rattle.trace_images.specs.declared.telling.Telling.{Telling}
 use Rattle.trace_images.specs.Pages.{blank, Paged}

@@ -23,7 +23,7 @@ use Rattle.interpreter.specs.Laws.TurnLaws.{none_hold, some_hold, moves_to, turn
 use Rattle.interpreter.specs.Laws.VisitWays.{visits_on}
 use Rattle.trace.specs.Trace.{trace}
 use Rattle.trace.specs.LineText.{lines_text}
-use Rattle.trace.specs.TraceTextLaws.{text_move, text_turn, text_stops}
+use Rattle.trace.proofs.TraceTextLaws.{text_move, text_turn, text_stops}
 use Rattle.trace_lines.specs.declared.Told.{Told as Made}
 use Rattle.trace_lines.specs.Told.{TurnTold, MoveTold}
 use Rattle.trace_lines.specs.TellLaws.{movable_on}

@@ -74,7 +74,7 @@ answered-r-requires c =
     let cells_of' : List ℕ = c.seat_table-seated.new.cells in
     let seated' : (p : Program) (o : OpensAt' p) → SeatedTable c.args.s.now counts_of' p c.args.table.now (Taken c.in-Taken.seat) heads_of' cells_of' = λ p o. let a = c.args in subst (λ (r : SeatRead). SeatedTable a.s.now counts_of' p a.table.now r heads_of' cells_of') c.in-Taken.is (c.seat_table-seated.ensures a.s.now p (opens_admits o)) in
     let asking_of' : Asking = let a = c.args in record { seat = c.in-Taken.seat; question = a.q; plan = a.o.loaded.plan; steps = a.o.loaded.steps } in
-    let subject' : (p : Program) (o : OpensAt' p) → Subject c.args.s.now counts_of' types_of' c.args.rows.now asking_of' heads_of' cells_of' p (seated' p o).0 = λ p o. let w = seated' p o in record { admits = record { admitted = w.2.admitted; typed = o.typed }; planned = seated_planned o w.2.admitted; listed = o.listed; long = o.long; right = image_right p (admitted_counts o.admitted) c.args.table.now w.0 w.1; seated = w.2; } in
+    let subject' : (p : Program) (o : OpensAt' p) → Subject c.args.s.now counts_of' types_of' c.args.rows.now asking_of' heads_of' cells_of' p (seated' p o).0 = λ p o. let w = seated' p o in record { admits = record { admitted = w.2.admitted; typed = o.typed }; planned = seated_planned o w.2.admitted; listed = o.listed; long = o.long; right = image_right p (admitted_counts o.admitted) c.args.table.now w.0 w.1; seated = w.2 } in
     let o = c.requires.1 in (c.requires.0, (seated' _ o).0, subject' _ o)
 
 pub returns-then-r-ne0 : goal.returns-then-r-ne0
@@ -87,7 +87,7 @@ returns-then-r-ne0 c =
     let seated' : (p : Program) (o : OpensAt' p) → SeatedTable c.args.s.now counts_of' p c.args.table.now (Taken c.in-Taken.seat) heads_of' cells_of' = λ p o. let a = c.args in subst (λ (r : SeatRead). SeatedTable a.s.now counts_of' p a.table.now r heads_of' cells_of') c.in-Taken.is (c.seat_table-seated.ensures a.s.now p (opens_admits o)) in
     let begins' : (p : Program) (o : OpensAt' p) → with_table c.args.table.now p ≡ begun p (seated' p o).0 = λ p o. with_begun c.args.table.now p (seated' p o).1 in
     let asking_of' : Asking = let a = c.args in record { seat = c.in-Taken.seat; question = a.q; plan = a.o.loaded.plan; steps = a.o.loaded.steps } in
-    let subject' : (p : Program) (o : OpensAt' p) → Subject c.args.s.now counts_of' types_of' c.args.rows.now asking_of' heads_of' cells_of' p (seated' p o).0 = λ p o. let w = seated' p o in record { admits = record { admitted = w.2.admitted; typed = o.typed }; planned = seated_planned o w.2.admitted; listed = o.listed; long = o.long; right = image_right p (admitted_counts o.admitted) c.args.table.now w.0 w.1; seated = w.2; } in
+    let subject' : (p : Program) (o : OpensAt' p) → Subject c.args.s.now counts_of' types_of' c.args.rows.now asking_of' heads_of' cells_of' p (seated' p o).0 = λ p o. let w = seated' p o in record { admits = record { admitted = w.2.admitted; typed = o.typed }; planned = seated_planned o w.2.admitted; listed = o.listed; long = o.long; right = image_right p (admitted_counts o.admitted) c.args.table.now w.0 w.1; seated = w.2 } in
     let a = c.args in
     λ p o. number_answers a.q a.list.now (begins' p o) c.if-list-lt-MAX_COMMANDS.false (c.answered-r.ensures p (seated' p o).0 (subject' p o)) c.if-r-ne0.true
 
@@ -111,7 +111,7 @@ returns c =
     let seated' : (p : Program) (o : OpensAt' p) → SeatedTable c.args.s.now counts_of' p c.args.table.now (Taken c.in-Taken.seat) heads_of' cells_of' = λ p o. let a = c.args in subst (λ (r : SeatRead). SeatedTable a.s.now counts_of' p a.table.now r heads_of' cells_of') c.in-Taken.is (c.seat_table-seated.ensures a.s.now p (opens_admits o)) in
     let begins' : (p : Program) (o : OpensAt' p) → with_table c.args.table.now p ≡ begun p (seated' p o).0 = λ p o. with_begun c.args.table.now p (seated' p o).1 in
     let asking_of' : Asking = let a = c.args in record { seat = c.in-Taken.seat; question = a.q; plan = a.o.loaded.plan; steps = a.o.loaded.steps } in
-    let subject' : (p : Program) (o : OpensAt' p) → Subject c.args.s.now counts_of' types_of' c.args.rows.now asking_of' heads_of' cells_of' p (seated' p o).0 = λ p o. let w = seated' p o in record { admits = record { admitted = w.2.admitted; typed = o.typed }; planned = seated_planned o w.2.admitted; listed = o.listed; long = o.long; right = image_right p (admitted_counts o.admitted) c.args.table.now w.0 w.1; seated = w.2; } in
+    let subject' : (p : Program) (o : OpensAt' p) → Subject c.args.s.now counts_of' types_of' c.args.rows.now asking_of' heads_of' cells_of' p (seated' p o).0 = λ p o. let w = seated' p o in record { admits = record { admitted = w.2.admitted; typed = o.typed }; planned = seated_planned o w.2.admitted; listed = o.listed; long = o.long; right = image_right p (admitted_counts o.admitted) c.args.table.now w.0 w.1; seated = w.2 } in
     let a = c.args in
     λ p o. listed_answers a.q a.list.now (begins' p o) c.if-list-lt-MAX_COMMANDS.false (c.answered-r.ensures p (seated' p o).0 (subject' p o)) c.if-r-ne0.false
     (admitted_listed (seated' p o).2.admitted a.list.now c.program.ensures)

@@ -40,7 +40,7 @@ bounds-heads-at-2 c = omega (arith, fit_rows (turnable_fits c.requires.turnable 
 
 pub position-requires : goal.position-requires
 position-requires c =
-    record { spans_size_in_bounds = ( turnable_spans c.requires.turnable c.args.turn.byte c.picked_of-l.ensures, omega ( arith, fit_rows (turnable_fits c.requires.turnable c.args.turn.byte c.picked_of-l.ensures), ), ); struct_of_bound = ( turnable_row c.requires.turnable c.args.turn.byte c.picked_of-l.ensures, c.requires.turnable.named, ) }
+    record { spans_size_in_bounds = (turnable_spans c.requires.turnable c.args.turn.byte c.picked_of-l.ensures, omega (arith, fit_rows (turnable_fits c.requires.turnable c.args.turn.byte c.picked_of-l.ensures))); struct_of_bound = (turnable_row c.requires.turnable c.args.turn.byte c.picked_of-l.ensures, c.requires.turnable.named) }
 
 pub offset_bounds-list-next : goal.offset_bounds-list-next
 offset_bounds-list-next c = omega (arith, fit_rows (turnable_fits c.requires.turnable c.args.turn.byte c.picked_of-l.ensures))

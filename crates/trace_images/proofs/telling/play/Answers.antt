@@ -129,7 +129,7 @@ settle-settled-requires c =
     let goes' : (p : Program) (m : Machine) → StartsHere' p m → Goes (some c.args.out.now) p m c.args.turns.now counts_of' list_of' items_of' spans_of' c.loop-next.next c.loop-next.heads c.loop-next.cells c.loop-next.out = λ p m w. let a = c.args in c.loop-next.invariant.6 (some a.out.now) p m (subst (λ (r : Telling). Goes (some a.out.now) p m a.turns.now counts_of' list_of' items_of' spans_of' r c.settle-begun.new.heads a.cells.now c.settle-begun.new.out) (sym c.told_at-next.ensures) (first_goes (some a.out.now) p m a.turns.now counts_of' list_of' items_of' spans_of' a.start refl c.first.ensures (ready' p m w) c.settle-begun.ensures)) in
     let the_program' : Program = c.requires.starting.0 in
     let the_machine' : Machine = c.requires.starting.1 in
-    let g = goes' the_program' the_machine' c.requires.starting.2 in record { standing = ( taken_standing _ _ _ _ _ _ _ _ g c.loop-next-test.true c.turn-next.ensures c.if-next-eq0.true, rw c.turn-next.ensures.named c.loop-next.invariant.3, ); len_bound = ( omega (arith, items_length'), omega (arith, c.turn-next.ensures.short c.if-next-eq0.true, c.loop-next.invariant.4, g.early c.loop-next-test.true, c.requires.turns_len_bound), ) }
+    let g = goes' the_program' the_machine' c.requires.starting.2 in record { standing = (taken_standing _ _ _ _ _ _ _ _ g c.loop-next-test.true c.turn-next.ensures c.if-next-eq0.true, rw c.turn-next.ensures.named c.loop-next.invariant.3); len_bound = (omega (arith, items_length'), omega (arith, c.turn-next.ensures.short c.if-next-eq0.true, c.loop-next.invariant.4, g.early c.loop-next-test.true, c.requires.turns_len_bound)) }
 
 pub loop-next-smaller-then-next-eq0 : goal.loop-next-smaller-then-next-eq0
 loop-next-smaller-then-next-eq0 c =

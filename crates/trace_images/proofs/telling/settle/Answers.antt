@@ -31,7 +31,7 @@ returns-then-items-place-eq-END c =
 pub moved-next-requires : goal.moved-next-requires
 moved-next-requires c =
     let most' : left_at c.args.items.now c.args.s ≤ (fix_levels + 1) * items_most = settling_most c.args.s c.args.heads.now c.args.out.now c.requires.standing.0 c.requires.len_bound.0 in
-    let i = c.loop-place.invariant in record { moveable = settling_moveable c.args.s c.args.heads.now c.args.out.now c.requires.standing.0 c.loop-place.next c.loop-place.heads c.loop-place.out i.2 c.if-items-place-eq-END.false (nobody_holds c.loop-place.next.coming.machine.numbers c.due.ensures (ap not c.loop-place-test.true)) i.3; line_most_bound = omega ( arith, i.6, most', c.requires.len_bound.1, settling_some c.args.s c.args.heads.now c.args.out.now c.requires.standing.0 c.loop-place.next c.loop-place.heads c.loop-place.out i.2, ) }
+    let i = c.loop-place.invariant in record { moveable = settling_moveable c.args.s c.args.heads.now c.args.out.now c.requires.standing.0 c.loop-place.next c.loop-place.heads c.loop-place.out i.2 c.if-items-place-eq-END.false (nobody_holds c.loop-place.next.coming.machine.numbers c.due.ensures (ap not c.loop-place-test.true)) i.3; line_most_bound = omega (arith, i.6, most', c.requires.len_bound.1, settling_some c.args.s c.args.heads.now c.args.out.now c.requires.standing.0 c.loop-place.next c.loop-place.heads c.loop-place.out i.2) }
 
 pub loop-place-smaller : goal.loop-place-smaller
 loop-place-smaller c =

@@ -20,11 +20,10 @@ byte-at-requires c =
     )
 
 pub loop-i-preserved : goal.loop-i-preserved
-loop-i-preserved c =
-    (
-      c.byte-at.auto.out ∙ c.loop-i.invariant.0,
-      bits_next c.loop-i.invariant.1 c.loop-i-test.true c.byte-at.ensures,
-    )
+loop-i-preserved c = (
+  c.byte-at.auto.out ∙ c.loop-i.invariant.0,
+  bits_next c.loop-i.invariant.1 c.loop-i-test.true c.byte-at.ensures,
+)
 
 pub shape_of-out : goal.shape_of-out
 shape_of-out c = c.loop-i.invariant.0 ∙ c.put-at.auto.out

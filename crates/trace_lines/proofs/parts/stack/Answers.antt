@@ -19,13 +19,12 @@ cell-at-requires c =
     record { cell_fits = c.requires.stack_fits.each c.loop-h.h (omega (arith, c.loop-h-test.true)); cell_most_in_bounds = omega (arith, c.loop-h.invariant.0, c.loop-h.invariant.2, c.loop-h-test.true, c.requires.stack_fits.low, c.requires.max_depth_in_bounds) }
 
 pub loop-h-preserved : goal.loop-h-preserved
-loop-h-preserved c =
-    (
-      c.cell-at.auto.out ∙ c.loop-h.invariant.0,
-      omega (arith, c.loop-h-test.true),
-      omega (arith, c.cell-at.ensures.upper_bound, c.loop-h.invariant.2),
-      cells_more _ _ _ c.loop-h.h c.loop-h.invariant.3 c.cell-at.ensures.placed,
-    )
+loop-h-preserved c = (
+  c.cell-at.auto.out ∙ c.loop-h.invariant.0,
+  omega (arith, c.loop-h-test.true),
+  omega (arith, c.cell-at.ensures.upper_bound, c.loop-h.invariant.2),
+  cells_more _ _ _ c.loop-h.h c.loop-h.invariant.3 c.cell-at.ensures.placed,
+)
 
 pub returns : goal.returns
 returns c =

@@ -9,7 +9,7 @@ pub returns-then-w : goal.returns-then-w
 unfolding values_text
 returns-then-w c =
     let new = placed_on c.put-d.ensures c.worth.ensures.placed in
-    let values = placed_on c.put-b.ensures (placed_on c.worth-c.ensures.placed new) in record { placed = placed_as (write_some _ _ c.if-w.true) (placed_on c.place-a.ensures.placed values); upper_bound = omega ( arith, c.place-a.ensures.upper_bound, c.put-b.ensures.end, c.worth-c.ensures.upper_bound, c.put-d.ensures.end, c.worth.ensures.upper_bound, ) }
+    let values = placed_on c.put-b.ensures (placed_on c.worth-c.ensures.placed new) in record { placed = placed_as (write_some _ _ c.if-w.true) (placed_on c.place-a.ensures.placed values); upper_bound = omega (arith, c.place-a.ensures.upper_bound, c.put-b.ensures.end, c.worth-c.ensures.upper_bound, c.put-d.ensures.end, c.worth.ensures.upper_bound) }
 
 pub returns : goal.returns
 returns c =

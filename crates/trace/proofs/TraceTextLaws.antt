@@ -20,8 +20,8 @@ use Rattle.run.specs.Run.{Outcome.stopped, run}
 use Rattle.trace.specs.Trace.{Line, Line.moved, Line.acted, alone, move_line, turn_line, trace, turn_count}
 use Rattle.trace.specs.LineText.{step_name, line_text, step_behind, turn_behind, lines_text, trace_lines, end_text}
 use Rattle.trace.specs.TraceText.{end_of, run_text, begun_text, traces, trace_text}
-use Rattle.trace.specs.TraceLaws.{trace_turns}
-use Rattle.trace.specs.TraceStepLaws.{trace_move, trace_turn, trace_lasts, trace_ends}
+use Rattle.trace.proofs.TraceLaws.{trace_turns}
+use Rattle.trace.proofs.TraceStepLaws.{trace_move, trace_turn, trace_lasts, trace_ends}
 
 module _ (p : Program) (m : Machine) (n t : ℕ) where
   -- a move that is due

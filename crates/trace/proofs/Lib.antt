@@ -1,0 +1,4 @@
+pub mod TraceLaws
+pub mod TraceStepLaws
+pub mod TraceTextLaws
+pub mod TracePageLaws
