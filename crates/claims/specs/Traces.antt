@@ -6,7 +6,7 @@ use Rattle.run.specs.Steps.{Steps}
 use Rattle.run.specs.Visits.{Acts}
 use Rattle.run.specs.Run.{Outcome.stopped, run}
 use Rattle.trace.specs.Trace.{lines_of, trace, last_of, turn_count}
-use Rattle.trace.specs.TraceLaws.{trace_run as run_law, trace_last as last_law, trace_turns as turns_law}
+use Rattle.trace.proofs.TraceLaws.{trace_run as run_law, trace_last as last_law, trace_turns as turns_law}
 
 module _ (p : Program) (m : Machine) (es : List ℕ) {n t : ℕ} {z : Machine} (r : run p m es ≡ stopped n t z) where
   -- the trace of a run that comes to a number is the lines of the way of small steps that the run takes, one for each;
