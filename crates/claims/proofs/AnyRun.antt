@@ -38,7 +38,7 @@ use Rattle.sound.proofs.Laws.StartedLaws.{good_one_step}
 use Rattle.sound.proofs.Laws.TableKept.{table_kept, table_written, nulls_kept, comes_written}
 use Rattle.sound.proofs.Laws.WaitLaws.{holder_waits}
 use Rattle.claims.specs.Call.{Called}
-use Rattle.claims.specs.Laws.JoinLaws.{called, passes_right, passes_entries}
+use Rattle.claims.proofs.Laws.JoinLaws.{called, passes_right, passes_entries}
 
 -- Where a run may begin ------------------------------------------------------------------
 

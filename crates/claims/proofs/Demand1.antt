@@ -13,7 +13,7 @@ use Rattle.run.proofs.Laws.InputLaws.{begins_number, refusal_untouched}
 use Rattle.step_part.specs.StepPart.{step_place, step_part}
 use Rattle.text.specs.Listing.{row}
 use Rattle.listing.specs.Listings.{refused_word, listing_of}
-use Rattle.claims.specs.Laws.JoinLaws.{step_numbered, listing_numbered}
+use Rattle.claims.proofs.Laws.JoinLaws.{step_numbered, listing_numbered}
 
 module _ (x list : List ℕ) where
   -- The checker: "Lowest number first, save within 2/3, 4/5, 11/12"

@@ -20,9 +20,9 @@ use Rattle.sound.specs.Startable.{Startable}
 use Rattle.sound.proofs.Laws.AcceptedLaws.{ready_accepted}
 use Rattle.sound.proofs.Laws.NeverStuckLaws.{never_stuck_numbers}
 use Rattle.claims.specs.Call.{Call}
-use Rattle.claims.specs.Laws.JoinLaws.{ready_call}
-use Rattle.claims.specs.Laws.ReportLaws.{report_numbers}
-use Rattle.claims.specs.AnyRun.{table_startable, run_states_right, run_entries_within}
+use Rattle.claims.proofs.Laws.JoinLaws.{ready_called}
+use Rattle.claims.proofs.Laws.ReportLaws.{report_numbers}
+use Rattle.claims.proofs.AnyRun.{table_startable, run_states_right, run_entries_within}
 
 -- the machine that a call on a table begins its run with
 first : (x y es out list : List ℕ) (p : Program) (rs : List Record) → Runnable x y es out list p rs → Startable p (begin p rs)
@@ -32,12 +32,12 @@ module _ (x y es out list : List ℕ) where
   module _ (p : Program) (rs : List Record) (r : Runnable x y es out list p rs) where
     -- every call that is not refused
     pub never_stuck_run : Demand3 p rs es
-    never_stuck_run = (ready_call x y es out list p rs r).never_stuck
+    never_stuck_run = (ready_called x y es out list p rs r).never_stuck
 
     -- and its answer: number, turns, blocks, depth, every output byte and the list are those of that run, to which the published rules
     -- come
     pub call_answered : Call x y es out list p rs
-    call_answered = ready_call x y es out list p rs r
+    call_answered = ready_called x y es out list p rs r
 
     -- "A next command is that of any instance holding commands, chosen or not": every configuration that the published rules pass through
     -- is one of a machine in which each next command finds what it needs
@@ -54,13 +54,13 @@ module _ (x y es out list : List ℕ) where
   -- "A run is a call to run a program on a table and a list of turns, where no condition of a number from the input holds"
   pub call_none : NoneOf (run_order x y es out list)
       → (p : Program) × (rs : List Record) × Runnable x y es out list p rs × Call x y es out list p rs
-  call_none f = let (p, rs, e, r) = (begins_none x y es out list).1 f in (p, rs, r, ready_call x y es out list p rs r)
+  call_none f = let (p, rs, e, r) = (begins_none x y es out list).1 f in (p, rs, r, ready_called x y es out list p rs r)
 
   -- such a call reports 0, 33, 34 or 35
   pub no_other_report : NoneOf (run_order x y es out list)
       → ((run_report x y es out list).number ≡ 0)
       ⊎ (((run_report x y es out list).number ≡ 33) ⊎ (((run_report x y es out list).number ≡ 34) ⊎ ((run_report x y es out list).number ≡ 35)))
-  no_other_report f = let (p, rs, r, c) = call_none f in report_numbers x y es out list p rs c
+  no_other_report f = let (p, rs, e, r) = (begins_none x y es out list).1 f in report_numbers x y es out list p rs (ready_called x y es out list p rs r)
 
 -- "A run then ends or stops with 33, 34 or 35" (02 §9): no other number
 pub no_other_number : {p : Program} (rs : List Record) {es : List ℕ} (d : Demand3 p rs es)

@@ -16,7 +16,9 @@ use Rattle.commands.proofs.Laws.NotedLaws.{erased}
 use Rattle.table.specs.Table.{Record}
 use Rattle.machine.specs.Published.{Sched, Sched.fixpoint, Inst, State.state}
 use Rattle.machine.specs.Machine.{Machine}
-use Rattle.run.specs.Begin.{table_of}
+use Rattle.run.specs.Begin.{begin, table_of}
+use Rattle.run.specs.Initial.{initially}
+use Rattle.run.specs.Answered.{Answered}
 use Rattle.run.specs.Holders.{holders}
 use Rattle.run.specs.Run.{Outcome.stopped, run}
 use Rattle.run.specs.Comes.{Comes}
@@ -104,8 +106,13 @@ module _ {p : Program} (a : Accepted p) {m : Machine} (start : Startable p m) {c
 
 -- Calls --------------------------------------------------------------------------------
 
--- a call on a table that begins is one
-pub ready_call : (x y es out list : List ℕ) (p : Program) (rs : List Record) → Runnable x y es out list p rs → Call x y es out list p rs
-ready_call x y es out list p rs r =
+-- what a call on a table that begins is, in full
+pub ready_called : (x y es out list : List ℕ) (p : Program) (rs : List Record) → Runnable x y es out list p rs
+    → Called p (begin p rs) (initially p rs) es (λ n t z. Answered x y es out list p n t (length (holders z)) (table_of p z))
+ready_called x y es out list p rs r =
     called (ready_accepted r) (begin_startable (ready_accepted r) rs r.table.right) (begin_stands p rs)
     λ n t z e c. comes_answered x y es out list p rs ((begins_ready x y es out list p rs).1 r) c
+
+-- a call on a table that begins is one
+pub ready_call : (x y es out list : List ℕ) (p : Program) (rs : List Record) → Runnable x y es out list p rs → Call x y es out list p rs
+ready_call x y es out list p rs r = ready_called x y es out list p rs r

@@ -43,10 +43,10 @@ use Rattle.sound.proofs.Laws.TableKept.{output_length}
 use Rattle.step_part.specs.StepPart.{step_place, step_part}
 use Rattle.step_lines.specs.Lines.{program_lines}
 use Rattle.listing.specs.Listings.{head, listing_of}
-use Rattle.claims.specs.Laws.JoinLaws.{step_handed, step_not_there, listing_accepted}
-use Rattle.claims.specs.AnyRun.{table_startable, run_states_published, run_states_visited, run_outcome_published, run_outcome_one}
-use Rattle.claims.specs.AnyRun.{run_holders_ended, run_holders_stopped, run_comes_to, run_written_accepted, run_one_step, run_tables_right}
-use Rattle.claims.specs.AnyRun.{run_tables_written, run_nulls_default}
+use Rattle.claims.proofs.Laws.JoinLaws.{step_handed, step_not_there, listing_accepted}
+use Rattle.claims.proofs.AnyRun.{table_startable, run_states_published, run_states_visited, run_outcome_published, run_outcome_one}
+use Rattle.claims.proofs.AnyRun.{run_holders_ended, run_holders_stopped, run_comes_to, run_written_accepted, run_one_step, run_tables_right}
+use Rattle.claims.proofs.AnyRun.{run_tables_written, run_nulls_default}
 
 -- The checker ----------------------------------------------------------------------------
 

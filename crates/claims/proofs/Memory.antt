@@ -20,8 +20,8 @@ use Rattle.memory.proofs.Laws.EntriesLaws.{entry_times, bits_times}
 use Rattle.interpreter.specs.Ready.{Ready}
 use Rattle.interpreter.specs.Laws.TurnLaws.{held_count}
 use Rattle.interpreter.specs.Running.{cleared, Moving, Running, Ended}
-use Rattle.claims.specs.Laws.MemoryLaws.{running_visited, ended_visited, after_turn, command_counted, move_counted}
-use Rattle.claims.specs.Laws.MemoryLaws.{wr_kind, target, target_variable, write_multiplied}
+use Rattle.claims.proofs.Laws.MemoryLaws.{running_visited, ended_visited, after_turn, command_counted, move_counted}
+use Rattle.claims.proofs.Laws.MemoryLaws.{wr_kind, target, target_variable, write_multiplied}
 
 module _ (p : Program) (counts list items spans : List ℕ) (m : Machine) {es : List ℕ} {z : State} where
   -- after i turns and the schedule moves after them: `Running` is the invariant of the loop over the turn bytes. The number of holders that the

@@ -79,7 +79,7 @@ use Rattle.orders.specs.ZeroTurns.{Zeros, Answer.apart, Answer.together, Answer.
 use Rattle.orders.specs.StepAnswer.{alone, step_state, step_machine, constructing, StepAnswer.followed, step_answer}
 use Rattle.orders.proofs.Laws.StepAnswerLaws.{step_apart_exact, step_free, step_meets, step_ends}
 use Rattle.orders.proofs.Laws.OrderFreeLaws.{free_after}
-use Rattle.claims.specs.AnyRun.{run_jammed_exactly}
+use Rattle.claims.proofs.AnyRun.{run_jammed_exactly}
 use Rattle.step_part.specs.StepPart.{step_place, step_part}
 use Rattle.step_part.specs.StepPartLaws.{place_fits, place_part}
 use Rattle.tokens.specs.Marking.{kinds_in}

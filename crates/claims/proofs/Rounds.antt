@@ -12,7 +12,7 @@ use Rattle.run.specs.Begin.{begin}
 use Rattle.run.specs.Visits.{Visits}
 use Rattle.run.proofs.Laws.BeginLaws.{begin_from}
 use Rattle.sound.specs.Waiting.{ActsWithin, StopsBefore}
-use Rattle.claims.specs.AnyRun.{table_startable, run_acts_in_turn}
+use Rattle.claims.proofs.AnyRun.{table_startable, run_acts_in_turn}
 
 -- "a run starts counting at label 0",
 pub counts_first : (p : Program) (rs : List Record) → (begin p rs).from ≡ 0

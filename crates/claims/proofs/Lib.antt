@@ -1,0 +1,13 @@
+pub mod AnyRun
+pub mod Demand1
+pub mod Demand2
+pub mod Demand3
+pub mod Text
+pub mod Exact
+pub mod Memory
+pub mod Rounds
+pub mod Traces
+pub mod Orders
+pub mod Counts
+pub mod Laws
+pub mod Free
