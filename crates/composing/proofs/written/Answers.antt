@@ -13,7 +13,7 @@ took : {text roles numbers out₀ stack₀ out stack : List ℕ} {p : Pen} {i : 
     → Reached text roles numbers out₀ stack₀ out stack p i → 0 < i → Near p.place 1 1 p q → length out₁ ≡ length out → length stack₁ ≡ length stack
     → v ≡ value_at text (i - 1) (get_or roles (i - 1) 0)
     → within (length out - margin) (stands out₁ stack₁ numbers q) ≡ within (length out - margin)
-        (put (get_or roles (i - 1) 0) v (stands out stack numbers p))
+    (put (get_or roles (i - 1) 0) v (stands out stack numbers p))
     → Took text roles numbers out₀ stack₀ out stack p out₁ stack₁ q i
 took out₁ stack₁ q v a b c d e f g = record { reached = a; more = b; near = c; same_out = d; same_stack = e; v = v; value = f; made = g }
 
@@ -54,48 +54,40 @@ spoilt-requires c = tt
 
 pub shape_of-stack-then-not-roomy : goal.shape_of-stack-then-not-roomy
 shape_of-stack-then-not-roomy c =
-    let k = took c.put-p.new.out c.put-p.new.stack c.put-p.result c.literal.result c.loop-i.invariant c.loop-i-test.true c.put-p.ensures.near
-        c.put-p.auto.out
-    c.put-p.auto.stack c.literal.ensures c.put-p.ensures.result_after in
-    k.same_stack ∙ k.reached.tall ∙ length-set c.args.stack.now 0 0
+    c.put-p.auto.stack ∙ c.loop-i.invariant.tall ∙ length-set c.args.stack.now 0 0
 
 pub shape_of-out-then-not-roomy : goal.shape_of-out-then-not-roomy
 shape_of-out-then-not-roomy c =
-    let k = took c.put-p.new.out c.put-p.new.stack c.put-p.result c.literal.result c.loop-i.invariant c.loop-i-test.true c.put-p.ensures.near
-        c.put-p.auto.out
-    c.put-p.auto.stack c.literal.ensures c.put-p.ensures.result_after in k.same_out ∙ k.reached.room
+    c.put-p.auto.out ∙ c.loop-i.invariant.room
 
 pub returns-then-not-roomy : goal.returns-then-not-roomy
 returns-then-not-roomy c =
     let k = took c.put-p.new.out c.put-p.new.stack c.put-p.result c.literal.result c.loop-i.invariant c.loop-i-test.true c.put-p.ensures.near
-        c.put-p.auto.out
-    c.put-p.auto.stack c.literal.ensures c.put-p.ensures.result_after in
+    c.put-p.auto.out c.put-p.auto.stack c.literal.ensures c.put-p.ensures.result_after in
     let long = length-set c.args.stack.now 0 0 in
     record {
       result_after = reached_refused k (sym c.roomy.ensures ∙ c.if-not-roomy.true) c.spoilt.result c.spoilt.ensures.4;
-      place_in_bounds = (omega (arith, c.spoilt.ensures.0, k.near.behind, k.reached.behind, k.reached.room), omega
-          (arith, c.spoilt.ensures.1, k.near.height, k.reached.low, k.reached.high, k.reached.tall, long));
+      place_in_bounds = (
+        omega (arith, c.spoilt.ensures.0, k.near.behind, k.reached.behind, k.reached.room),
+        omega (arith, c.spoilt.ensures.1, k.near.height, k.reached.low, k.reached.high, k.reached.tall, long),
+      );
     }
 
 pub start-i-requires-in-loop-i : goal.start-i-requires-in-loop-i
 start-i-requires-in-loop-i c =
-    let k = took c.put-p.new.out c.put-p.new.stack c.put-p.result c.literal.result c.loop-i.invariant c.loop-i-test.true c.put-p.ensures.near
-        c.put-p.auto.out
-    c.put-p.auto.stack c.literal.ensures c.put-p.ensures.result_after in omega (arith, k.reached.inner)
+    omega (arith, c.loop-i.invariant.inner)
 
 pub loop-i-smaller : goal.loop-i-smaller
 loop-i-smaller c =
-    let k = took c.put-p.new.out c.put-p.new.stack c.put-p.result c.literal.result c.loop-i.invariant c.loop-i-test.true c.put-p.ensures.near
-        c.put-p.auto.out
-    c.put-p.auto.stack c.literal.ensures c.put-p.ensures.result_after in omega (arith, k.more, c.start-i-in-loop-i.ensures.behind)
+    omega (arith, c.loop-i-test.true, c.start-i-in-loop-i.ensures.behind)
 
 pub loop-i-preserved : goal.loop-i-preserved
 loop-i-preserved c =
     let args = c.args in
+    let k = took c.put-p.new.out c.put-p.new.stack c.put-p.result c.literal.result c.loop-i.invariant c.loop-i-test.true c.put-p.ensures.near
+    c.put-p.auto.out c.put-p.auto.stack c.literal.ensures c.put-p.ensures.result_after in
     reached_gap args.text.now args.roles.now args.numbers.now args.out.now (set args.stack.now 0 0) _ _ _ c.start-i-in-loop-i.ensures
-    (reached_token (took c.put-p.new.out c.put-p.new.stack c.put-p.result c.literal.result c.loop-i.invariant c.loop-i-test.true c.put-p.ensures.near
-        c.put-p.auto.out
-    c.put-p.auto.stack c.literal.ensures c.put-p.ensures.result_after) (sym c.roomy.ensures ∙ c.if-not-roomy.false))
+    (reached_token k (sym c.roomy.ensures ∙ c.if-not-roomy.false))
 
 pub shape_of-stack : goal.shape_of-stack
 shape_of-stack c =
@@ -112,6 +104,8 @@ returns c =
     record {
       result_after = reached_end args.text.now args.roles.now args.numbers.now args.out.now (set args.stack.now 0 0) here.out here.stack here.p here.i
           here.invariant (omega (arith, c.loop-i-test.false));
-      place_in_bounds = (omega (arith, here.invariant.behind, here.invariant.room), omega
-          (arith, here.invariant.low, here.invariant.high, here.invariant.tall, long));
+      place_in_bounds = (
+        omega (arith, here.invariant.behind, here.invariant.room),
+        omega (arith, here.invariant.low, here.invariant.high, here.invariant.tall, long),
+      );
     }

@@ -9,8 +9,11 @@ overflow_add-types_end c =
 
 pub slice_bounds-stream-end-2 : goal.slice_bounds-stream-end-2
 slice_bounds-stream-end-2 c =
-    omega (arith, (within c.args.text.now c.args.roles.now c.args.tables.now c.requires.roled.0 c.requires.rows c.requires.roled.1).1,
-        c.requires.roled.1.booked.long)
+    omega (
+      arith,
+      (within c.args.text.now c.args.roles.now c.args.tables.now c.requires.roled.0 c.requires.rows c.requires.roled.1).1,
+      c.requires.roled.1.booked.long,
+    )
 
 pub stream-requires : goal.stream-requires
 stream-requires c =

@@ -13,7 +13,7 @@ returns-then-out-lt-OUTPUT c =
 pub returns-in_default : goal.returns-in_default
 returns-in_default c =
     let blocks' : c.write_image-w.result ≡ Blocks (pieces (length c.args.stream.now)) = let args = c.args in c.write_image-w.ensures.value ∙ blocks_are
-        args.stream.now args.out.now c.if-out-lt-OUTPUT.false c.requires.0 c.requires.1 in
+    args.stream.now args.out.now c.if-out-lt-OUTPUT.false c.requires.0 c.requires.1 in
     absurd (c.in_default.not-Blocks _ blocks')
 
 pub overflow_cast-result : goal.overflow_cast-result
@@ -28,7 +28,7 @@ returns c =
     let args = c.args in
     let w = c.write_image-w in
     let both = image_ends args.stream.now args.out.now c.if-out-lt-OUTPUT.false c.requires.0 c.requires.1 w.result _ _ w.ensures.value c.in-Blocks.is
-        w.ensures.out_after in
+    w.ensures.out_after in
     record {
       value = both.0;
       out_after = both.1;

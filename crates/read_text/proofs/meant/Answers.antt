@@ -22,7 +22,7 @@ pub returns-in_default : goal.returns-in_default
 returns-in_default c =
     let args = c.args in
     let both = unnamed_ends args.text.now args.roles.now args.out.now _ c.numbers-names.result c.numbers-names.ensures.result_after _ c.in_default.is _
-        c.refused.ensures in
+    c.refused.ensures in
     record {
       value = both.0;
       out_after = both.1;
@@ -31,13 +31,15 @@ returns-in_default c =
 pub slice_bounds-numbers-end-3 : goal.slice_bounds-numbers-end-3
 slice_bounds-numbers-end-3 c =
     let args = c.args in
-    (count_told args.text.now args.roles.now args.out.now _ c.numbers-names.result c.numbers-names.ensures.result_after _ c.in-Count.is
-    c.numbers-names.ensures.counted).0
+    let r = c.numbers-names in
+    (count_told args.text.now args.roles.now args.out.now _ r.result r.ensures.result_after _ c.in-Count.is r.ensures.counted).0
 
 pub slice_bounds-composed-end : goal.slice_bounds-composed-end
 slice_bounds-composed-end c =
-    let args = c.args in sym (length-take-le _ _ (count_told args.text.now args.roles.now args.out.now _ c.numbers-names.result
-        c.numbers-names.ensures.result_after _ c.in-Count.is c.numbers-names.ensures.counted).0)
+    let args = c.args in
+    let r = c.numbers-names in
+    let few = (count_told args.text.now args.roles.now args.out.now _ r.result r.ensures.result_after _ c.in-Count.is r.ensures.counted).0 in
+    sym (length-take-le _ _ few)
 
 pub composed-placed-requires : goal.composed-placed-requires
 composed-placed-requires c =
@@ -46,18 +48,22 @@ composed-placed-requires c =
     let r = c.numbers-names in
     record {
       roles_in_bounds = (omega (arith, pre.0), omega (arith, pre.2, r.auto.stack), length-replicate {A = ℕ} output_size 0);
-      roled = (c.requires.roled, (count_told args.text.now args.roles.now args.out.now _ r.result r.ensures.result_after _ c.in-Count.is
-          r.ensures.counted).1);
+      roled = (
+        c.requires.roled,
+        (count_told args.text.now args.roles.now args.out.now _ r.result r.ensures.result_after _ c.in-Count.is
+            r.ensures.counted).1,
+      );
       rows = rows_there args.text.now args.roles.now args.out.now _ r.result r.ensures.result_after _ c.in-Count.is c.requires.roled;
     }
 
 pub returns-in_default-placed : goal.returns-in_default-placed
 returns-in_default-placed c =
-    let args = c.args in let r = c.numbers-names in
+    let args = c.args in
+    let r = c.numbers-names in
+    let few = (count_told args.text.now args.roles.now args.out.now _ r.result r.ensures.result_after _ c.in-Count.is r.ensures.counted).0 in
     let both = over_ends args.text.now args.roles.now args.out.now _ r.result r.ensures.result_after _ c.in-Count.is
-        (count_told args.text.now args.roles.now args.out.now _ c.numbers-names.result c.numbers-names.ensures.result_after _ c.in-Count.is
-        c.numbers-names.ensures.counted).0 _ c.composed-placed.result c.composed-placed.ensures c.in_default-placed.is _
-        c.refused-in_default-placed.ensures in
+    few _ c.composed-placed.result c.composed-placed.ensures c.in_default-placed.is _
+    c.refused-in_default-placed.ensures in
     record {
       value = both.0;
       out_after = both.1;
@@ -65,38 +71,42 @@ returns-in_default-placed c =
 
 pub slice_bounds-imaged-count : goal.slice_bounds-imaged-count
 slice_bounds-imaged-count c =
-    let same' : length c.composed-placed.new.stream ≡ output_size = c.composed-placed.auto.stream ∙ length-replicate {A = ℕ} output_size 0 in
-    let args = c.args in let r = c.numbers-names in
-    let low = inside args.text.now args.roles.now args.out.now _ r.result r.ensures.result_after _ c.in-Count.is
-    (count_told args.text.now args.roles.now args.out.now _ c.numbers-names.result c.numbers-names.ensures.result_after _ c.in-Count.is
-        c.numbers-names.ensures.counted).0 _ c.composed-placed.result c.composed-placed.ensures _ c.in-At.is in
-    omega (arith, low, same')
+    let same : length c.composed-placed.new.stream ≡ output_size = c.composed-placed.auto.stream ∙ length-replicate {A = ℕ} output_size 0 in
+    let args = c.args in
+    let r = c.numbers-names in
+    let few = (count_told args.text.now args.roles.now args.out.now _ r.result r.ensures.result_after _ c.in-Count.is r.ensures.counted).0 in
+    let low = inside args.text.now args.roles.now args.out.now _ r.result r.ensures.result_after _ c.in-Count.is few
+    _ c.composed-placed.result c.composed-placed.ensures _ c.in-At.is in
+    omega (arith, low, same)
 
 pub slice_bounds-imaged-start : goal.slice_bounds-imaged-start
 slice_bounds-imaged-start c =
-    let same' : length c.composed-placed.new.stream ≡ output_size = c.composed-placed.auto.stream ∙ length-replicate {A = ℕ} output_size 0 in
-    let args = c.args in let r = c.numbers-names in
-    let low = inside args.text.now args.roles.now args.out.now _ r.result r.ensures.result_after _ c.in-Count.is
-    (count_told args.text.now args.roles.now args.out.now _ c.numbers-names.result c.numbers-names.ensures.result_after _ c.in-Count.is
-        c.numbers-names.ensures.counted).0 _ c.composed-placed.result c.composed-placed.ensures _ c.in-At.is in
-    omega (arith, low, same')
+    let same : length c.composed-placed.new.stream ≡ output_size = c.composed-placed.auto.stream ∙ length-replicate {A = ℕ} output_size 0 in
+    let args = c.args in
+    let r = c.numbers-names in
+    let few = (count_told args.text.now args.roles.now args.out.now _ r.result r.ensures.result_after _ c.in-Count.is r.ensures.counted).0 in
+    let low = inside args.text.now args.roles.now args.out.now _ r.result r.ensures.result_after _ c.in-Count.is few
+    _ c.composed-placed.result c.composed-placed.ensures _ c.in-At.is in
+    omega (arith, low, same)
 
 pub imaged-requires : goal.imaged-requires
 imaged-requires c =
-    let same' : length c.composed-placed.new.stream ≡ output_size = c.composed-placed.auto.stream ∙ length-replicate {A = ℕ} output_size 0 in
-    let args = c.args in let r = c.numbers-names in
-    stream_long args.text.now args.roles.now args.out.now _ r.result r.ensures.result_after _ c.in-Count.is
-    (count_told args.text.now args.roles.now args.out.now _ c.numbers-names.result c.numbers-names.ensures.result_after _ c.in-Count.is
-        c.numbers-names.ensures.counted).0 _ c.composed-placed.result c.composed-placed.ensures _ c.in-At.is output_size same'
+    let same : length c.composed-placed.new.stream ≡ output_size = c.composed-placed.auto.stream ∙ length-replicate {A = ℕ} output_size 0 in
+    let args = c.args in
+    let r = c.numbers-names in
+    let few = (count_told args.text.now args.roles.now args.out.now _ r.result r.ensures.result_after _ c.in-Count.is r.ensures.counted).0 in
+    stream_long args.text.now args.roles.now args.out.now _ r.result r.ensures.result_after _ c.in-Count.is few
+    _ c.composed-placed.result c.composed-placed.ensures _ c.in-At.is output_size same
 
 pub returns : goal.returns
 returns c =
-    let same' : length c.composed-placed.new.stream ≡ output_size = c.composed-placed.auto.stream ∙ length-replicate {A = ℕ} output_size 0 in
-    let args = c.args in let r = c.numbers-names in
+    let same : length c.composed-placed.new.stream ≡ output_size = c.composed-placed.auto.stream ∙ length-replicate {A = ℕ} output_size 0 in
+    let args = c.args in
+    let r = c.numbers-names in
+    let few = (count_told args.text.now args.roles.now args.out.now _ r.result r.ensures.result_after _ c.in-Count.is r.ensures.counted).0 in
     let both = at_ends args.text.now args.roles.now args.out.now _ r.result r.ensures.result_after _ c.in-Count.is
-        (count_told args.text.now args.roles.now args.out.now _ c.numbers-names.result c.numbers-names.ensures.result_after _ c.in-Count.is
-        c.numbers-names.ensures.counted).0 _ c.composed-placed.result c.composed-placed.ensures _ c.in-At.is output_size same' _ _
-        (c.imaged.ensures.value, c.imaged.ensures.out_after) in
+    few _ c.composed-placed.result c.composed-placed.ensures _ c.in-At.is output_size same _ _
+    (c.imaged.ensures.value, c.imaged.ensures.out_after) in
     record {
       value = both.0;
       out_after = both.1;

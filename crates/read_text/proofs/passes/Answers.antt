@@ -8,7 +8,7 @@ pub returns-then-not-mark : goal.returns-then-not-mark
 returns-then-not-mark c =
     let args = c.args in let r = c.mark in
     let both = way_15 args.text.now args.kinds.now _ c.requires.kinds_len.0 r.result r.ensures.value r.ensures.kinds_after args.out.now
-        (ap not c.if-not-mark.true) _ c.refused.ensures in
+    (ap not c.if-not-mark.true) _ c.refused.ensures in
     record {
       value = both.0;
       out_after = both.1;
@@ -18,8 +18,8 @@ pub returns-then-not-derived : goal.returns-then-not-derived
 returns-then-not-derived c =
     let d = c.derived in let args = c.args in let r = c.mark in
     let both = way_16 args.text.now args.kinds.now _ c.requires.kinds_len.0 r.result r.ensures.value r.ensures.kinds_after args.out.now
-        (ap not c.if-not-mark.false) _ d.result d.ensures.value d.ensures.kinds_after (ap not c.if-not-derived.true) _
-        c.refused-then-not-derived.ensures in
+    (ap not c.if-not-mark.false) _ d.result d.ensures.value d.ensures.kinds_after (ap not c.if-not-derived.true) _
+    c.refused-then-not-derived.ensures in
     record {
       value = both.0;
       out_after = both.1;
@@ -31,8 +31,12 @@ meant-requires c =
     let args = c.args in
     let r = c.mark in
     record {
-      roles_len = (d.auto.kinds ∙ r.auto.kinds ∙ c.requires.kinds_len.0, c.requires.kinds_len.1, omega
-          (arith, c.requires.kinds_len.0, c.requires.kinds_len.2, r.auto.kinds, d.auto.kinds, d.auto.stack));
+      roles_len = (
+        d.auto.kinds ∙ r.auto.kinds ∙ c.requires.kinds_len.0,
+        c.requires.kinds_len.1,
+        omega
+            (arith, c.requires.kinds_len.0, c.requires.kinds_len.2, r.auto.kinds, d.auto.kinds, d.auto.stack),
+      );
       roled = roled_there args.text.now args.kinds.now _ c.requires.kinds_len.0 r.result r.ensures.value r.ensures.kinds_after args.out.now
           (ap not c.if-not-mark.false) _ d.result d.ensures.value d.ensures.kinds_after (ap not c.if-not-derived.false);
     }
@@ -41,8 +45,8 @@ pub returns : goal.returns
 returns c =
     let d = c.derived in let args = c.args in let r = c.mark in
     let both = way_on args.text.now args.kinds.now _ c.requires.kinds_len.0 r.result r.ensures.value r.ensures.kinds_after args.out.now
-        (ap not c.if-not-mark.false) _ d.result d.ensures.value d.ensures.kinds_after (ap not c.if-not-derived.false) _ _
-        (c.meant.ensures.value, c.meant.ensures.out_after) in
+    (ap not c.if-not-mark.false) _ d.result d.ensures.value d.ensures.kinds_after (ap not c.if-not-derived.false) _ _
+    (c.meant.ensures.value, c.meant.ensures.out_after) in
     record {
       value = both.0;
       out_after = both.1;

@@ -29,6 +29,9 @@ returns c =
       result_after = numbers_passed c.args.text.now c.args.roles.now c.fill.ensures.value _ _ _ c.if-not-fill.false tabled.book
           c.uses.ensures.result_after;
       counted = counted_with _ _ _ c.uses.ensures.counted tabled;
-      roles_value = (stops_passed c.args.text.now c.args.roles.now c.fill.ensures.value _ _ c.if-not-fill.false tabled.book
-          c.uses.ensures.roles_value.0, c.uses.ensures.roles_value.1);
+      roles_value = (
+        stops_passed c.args.text.now c.args.roles.now c.fill.ensures.value _ _ c.if-not-fill.false tabled.book
+            c.uses.ensures.roles_value.0,
+        c.uses.ensures.roles_value.1,
+      );
     }

@@ -29,6 +29,9 @@ returns c =
       by_index = λ n. c.wrote.ensures.by_index args.stack.now n ∙ ap (wrote (get_or args.stack.now (p.height - 1) 0))
           (popped_stands args.out.now args.stack.now n p q e) ∙ counted_on (drop p.place args.out.now) args.stack.now (held n p.left) p.height p.later
           p.fits c.if-h-eq0.false;
-      height_le_height = (omega (arith, e.1, c.wrote.ensures.place_value.1.height), near_then 1 0 0 (near_popped p q e) c.wrote.ensures.place_value.1
-          (omega arith) (omega arith) (omega arith));
+      height_le_height = (
+        omega (arith, e.1, c.wrote.ensures.place_value.1.height),
+        near_then 1 0 0 (near_popped p q e) c.wrote.ensures.place_value.1
+            (omega arith) (omega arith) (omega arith),
+      );
     }

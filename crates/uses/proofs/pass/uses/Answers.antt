@@ -54,10 +54,16 @@ returns-in-Stop c =
       result_after = token_stop same inv.0 inv.1 c.loop-i-test.true _ _ _ c.use_at.ensures.by_index c.use_at.ensures.next
           c.use_at.ensures.stack_len_unchanged _ _ stop;
       counted = tt;
-      roles_value = (token_here same inv.0 inv.1 c.loop-i-test.true _ _ _ c.use_at.ensures.by_index c.use_at.ensures.next
-          c.use_at.ensures.stack_len_unchanged stop, omega (arith, c.loop-i-test.true));
-      stack_len_unchanged = (c.use_at.ensures.stack_len_unchanged.0 ∙ inv.0.stack, c.use_at.ensures.stack_len_unchanged.1 ∙ inv.0.locals,
-          inv.0.numbers);
+      roles_value = (
+        token_here same inv.0 inv.1 c.loop-i-test.true _ _ _ c.use_at.ensures.by_index c.use_at.ensures.next
+            c.use_at.ensures.stack_len_unchanged stop,
+        omega (arith, c.loop-i-test.true),
+      );
+      stack_len_unchanged = (
+        c.use_at.ensures.stack_len_unchanged.0 ∙ inv.0.stack,
+        c.use_at.ensures.stack_len_unchanged.1 ∙ inv.0.locals,
+        inv.0.numbers,
+      );
     }
 
 pub loop-i-smaller-in-On : goal.loop-i-smaller-in-On
