@@ -1,6 +1,6 @@
 -- What the claims say in one line and the crates below in two: a step by its name, a call with the run that it makes.
 use Rattle.std.specs.Prelude.{ℕ, ◌<◌, ◌≤◌, ◌≡◌, Bool, List, [], ◌∷◌, ◌++◌, map, length}
-use Rattle.std.proofs.Common.{arith, ap, subst₂}
+use Rattle.std.proofs.Common.{ap, subst₂}
 use Rattle.std.proofs.Math.Option.{none, some}
 use Rattle.types.specs.Limits.{max_commands, fix_levels}
 use Rattle.types.specs.Orders.{Foremost}
