@@ -1,4 +1,4 @@
-//! Links the static library that `rt staticlib audala` writes, or the one in the folder that AUDALA_LIB names, and beside it dist/audala.c as bench/run.sh builds it,
+//! Links the static library that `tools/staticlib.sh` writes, or the one in the folder that AUDALA_LIB names, and beside it dist/audala.c as bench/run.sh builds it,
 //! with `c_` before the names of its entries; include/audala.rs is written with these names for it.
 use std::path::Path;
 

@@ -18,6 +18,6 @@ if [ "${1-}" = c ]; then
     shift
     export AUDALA_LIB=$c
 else
-    (cd "$top" && rt staticlib audala >/dev/null)
+    "$top/tools/staticlib.sh" >/dev/null
 fi
 cargo run --quiet --offline --release --jobs 1 --manifest-path "$here/Cargo.toml" -- "$@"

@@ -9,7 +9,7 @@ trap 'rm -rf "$work"' EXIT
 if [ "${1-}" = c ]; then
     library=$top/dist/audala.c
 else
-    (cd "$top" && rt staticlib audala >/dev/null)
+    "$top/tools/staticlib.sh" >/dev/null
     library=$top/target/staticlib/libaudala.a
 fi
 gcc -std=gnu11 -Wall -Wextra -Werror -O2 -Wl,-z,now -I"$top/include" "$here/stack.c" "$library" -o "$work/stack"

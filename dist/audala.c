@@ -1,7 +1,7 @@
 /* The AuDaLa engine as one C99 file, to be compiled beside audala.h. It needs memcpy and memset and nothing else, keeps no data and allocates nothing.
  *
  * Written by tools/mir2c: do not edit. 516 functions, from the MIR that the libraries of the proved crates carry.
- * Kit: rattle-kit-5b-plain logic 097e4c862dff5811
+ * Kit: rattle-kit-13f logic dac8208d650f15bf
  *
  * Proved, of the MIR: that each function meets its contract for every input, and so reads and writes nothing outside of what it is lent, overflows nothing and
  * returns (docs/THEOREMS.md). Not proved: this text. Like the kit's own back end for x86-64 it is a translation that is tested: the gate answers all
@@ -25,6 +25,16 @@ RT_ASSERT(uint64, sizeof(uint64_t) == 8);
 RT_ASSERT(unsigned_stays, sizeof(int) <= sizeof(uint32_t)); /* numbers of 32 bits are not promoted to a signed type */
 RT_ASSERT(length, sizeof(size_t) >= 4 && sizeof(size_t) <= 8); /* a length fits 64 bits, an offset fits a length */
 RT_ASSERT(pointer, offsetof(rt_slice, p) == 0);
+#if defined(__GNUC__)
+#define RT_APART __attribute__((noinline))
+#else
+#define RT_APART
+#endif
+#if defined(__GNUC__) && defined(__OPTIMIZE__) && !defined(__OPTIMIZE_SIZE__)
+#define RT_HERE inline __attribute__((always_inline))
+#else
+#define RT_HERE inline
+#endif
 RT_ASSERT(audala_counts, sizeof(audala_counts) == 16);
 RT_ASSERT(audala_counts_number, offsetof(audala_counts, number) == 0);
 RT_ASSERT(audala_counts_true_orders, offsetof(audala_counts, true_orders) == 4);
@@ -623,21 +633,21 @@ static inline uint64_t arithmetic__int_of(uint32_t l1);
 static inline uint64_t arithmetic__quotient_of(uint64_t l1, uint64_t l2);
 static inline uint64_t arithmetic__remainder_of(uint64_t l1, uint64_t l2);
 static inline struct operators__Answered arithmetic__truth(uint8_t l1);
-static inline struct audala__Answer audala__audala_check(rt_slice l1, rt_slice l2);
-static inline struct audala__Report audala__audala_run(rt_slice l1, rt_slice l2, rt_slice l3, rt_slice l4, rt_slice l5);
-static inline struct audala__Part audala__audala_step(rt_slice l1, rt_slice l2, uint8_t l3, uint8_t l4);
-static inline struct audala__images__Copied audala__images__audala_read_image(rt_slice l1, uint64_t l2, rt_slice l3);
-static inline struct audala__images__Copied audala__images__audala_write_image(rt_slice l1, uint64_t l2, rt_slice l3);
-static inline struct audala__images__Copied audala__images__of_read(struct blocks__Read l1);
-static inline struct audala__images__Copied audala__images__of_written(struct blocks__Written l1);
-static inline struct audala__images__Copied audala__listings__audala_listing(rt_slice l1, rt_slice l2);
+static RT_HERE struct audala__Answer audala__audala_check(rt_slice l1, rt_slice l2);
+static RT_HERE struct audala__Report audala__audala_run(rt_slice l1, rt_slice l2, rt_slice l3, rt_slice l4, rt_slice l5);
+static RT_HERE struct audala__Part audala__audala_step(rt_slice l1, rt_slice l2, uint8_t l3, uint8_t l4);
+static RT_HERE struct audala__images__Copied audala__images__audala_read_image(rt_slice l1, uint64_t l2, rt_slice l3);
+static RT_HERE struct audala__images__Copied audala__images__audala_write_image(rt_slice l1, uint64_t l2, rt_slice l3);
+static RT_HERE struct audala__images__Copied audala__images__of_read(struct blocks__Read l1);
+static RT_HERE struct audala__images__Copied audala__images__of_written(struct blocks__Written l1);
+static RT_HERE struct audala__images__Copied audala__listings__audala_listing(rt_slice l1, rt_slice l2);
 static inline struct audala__places__Stopped audala__places__audala_place(rt_slice l1);
-static inline struct audala__tallies__Counts audala__tallies__audala_count(rt_slice l1, rt_slice l2, uint32_t l3, uint32_t l4, uint32_t l5, rt_slice l6);
-static inline struct audala__images__Copied audala__texts__audala_text(rt_slice l1, rt_slice l2);
-static inline struct audala__traces__Traced audala__traces__audala_trace(rt_slice l1, rt_slice l2, rt_slice l3, uint64_t l4, rt_slice l5);
+static RT_HERE struct audala__tallies__Counts audala__tallies__audala_count(rt_slice l1, rt_slice l2, uint32_t l3, uint32_t l4, uint32_t l5, rt_slice l6);
+static RT_HERE struct audala__images__Copied audala__texts__audala_text(rt_slice l1, rt_slice l2);
+static RT_HERE struct audala__traces__Traced audala__traces__audala_trace(rt_slice l1, rt_slice l2, rt_slice l3, uint64_t l4, rt_slice l5);
 static inline struct block__Found block__block_fault(rt_slice l1, uint64_t l2, uint8_t l3);
 static inline uint8_t block__laid_out(rt_slice l1, uint64_t l2, uint8_t l3);
-static inline rt_slice block__payload(rt_slice l1, uint64_t l2);
+static RT_HERE rt_slice block__payload(rt_slice l1, uint64_t l2);
 static inline void block__put__copy(rt_slice l1, uint64_t l2, rt_slice l3);
 static inline void block__put__pair(rt_slice l1, uint64_t l2, uint64_t l3);
 static inline void block__put__zeros(rt_slice l1, uint64_t l2, uint64_t l3);
@@ -649,26 +659,26 @@ static inline void block__writing__put_front(rt_slice l1, uint64_t l2, uint64_t 
 static inline uint8_t block__zeros_from(rt_slice l1, uint64_t l2);
 static inline struct block__Fault blocks__fault_of(struct blocks__Opened l1);
 static inline struct block__Found blocks__image_fault(rt_slice l1, uint64_t l2);
-static inline struct blocks__Opened blocks__open_image(rt_slice l1, uint64_t l2, rt_slice l3);
+static RT_HERE struct blocks__Opened blocks__open_image(rt_slice l1, uint64_t l2, rt_slice l3);
 static inline uint8_t blocks__program_number(struct block__Fault l1);
-static inline struct blocks__Read blocks__read_image(rt_slice l1, uint64_t l2, rt_slice l3);
+static RT_HERE struct blocks__Read blocks__read_image(rt_slice l1, uint64_t l2, rt_slice l3);
 static inline struct block__Found blocks__reading__first_fault(rt_slice l1, uint64_t l2);
 static inline void blocks__reading__join(rt_slice l1, uint64_t l2, rt_slice l3);
 static inline uint8_t blocks__reading__length_right(uint64_t l1, uint64_t l2);
 static inline uint64_t blocks__reading__most(uint64_t l1);
 static inline uint64_t blocks__reading__stream_length(rt_slice l1, uint64_t l2);
 static inline uint8_t blocks__table_number(struct block__Fault l1);
-static inline struct blocks__Written blocks__write_image(rt_slice l1, uint64_t l2, rt_slice l3);
-static inline rt_slice blocks__writing__piece(rt_slice l1, uint64_t l2);
+static RT_HERE struct blocks__Written blocks__write_image(rt_slice l1, uint64_t l2, rt_slice l3);
+static RT_HERE rt_slice blocks__writing__piece(rt_slice l1, uint64_t l2);
 static inline void blocks__writing__put_blocks(rt_slice l1, uint64_t l2, rt_slice l3);
 static inline uint8_t blocks__writing__stream_right(uint64_t l1, uint64_t l2);
 static inline struct checker__Verdict checker__accepted(struct load__Loaded l1);
-static inline struct checker__Verdict checker__check(rt_slice l1, rt_slice l2);
+static RT_APART struct checker__Verdict checker__check(rt_slice l1, rt_slice l2);
 static inline struct checker__Verdict checker__refused(uint8_t l1);
 static inline struct emit__Put compile__items__add(rt_slice l1, struct emit__Put l2, uint64_t l3);
 static inline struct emit__Put compile__items__item(rt_slice l1, uint64_t l2, uint64_t l3, rt_slice l4, uint64_t l5);
 static inline struct emit__Put compile__items__items(rt_slice l1, uint64_t l2, uint64_t l3, rt_slice l4, uint64_t l5);
-static inline struct emit__Put compile__items__schedule(rt_slice l1, uint64_t l2, rt_slice l3);
+static RT_HERE struct emit__Put compile__items__schedule(rt_slice l1, uint64_t l2, rt_slice l3);
 static inline void compile__program(rt_slice l1, uint64_t l2, uint64_t l3, rt_slice l4, uint64_t l5, rt_slice l6, rt_slice l7);
 static inline void compile__spans__clear(rt_slice l1, uint64_t l2);
 static inline void compile__spans__note(rt_slice l1, uint64_t l2, rt_slice l3);
@@ -677,41 +687,42 @@ static inline void compile__spans__of_rows(rt_slice l1, uint64_t l2, uint64_t l3
 static inline void compile__spans__pair(rt_slice l1, uint64_t l2, uint16_t l3, uint16_t l4);
 static inline void compile__spans__put(rt_slice l1, uint64_t l2, uint16_t l3);
 static inline void compile__store(rt_slice l1, uint64_t l2, uint64_t l3);
-static inline struct composing__Pen composing__bytes__behind(rt_slice l1, rt_slice l2, struct composing__Pen l3, uint8_t l4, uint32_t l5);
-static inline struct composing__Pen composing__bytes__formed(rt_slice l1, struct composing__Pen l2, uint8_t l3);
-static inline struct composing__Pen composing__bytes__lengthened(struct composing__Pen l1);
+static RT_HERE struct composing__Pen composing__bytes__behind(rt_slice l1, rt_slice l2, struct composing__Pen l3, uint8_t l4, uint32_t l5);
+static RT_HERE struct composing__Pen composing__bytes__formed(rt_slice l1, struct composing__Pen l2, uint8_t l3);
+static RT_HERE struct composing__Pen composing__bytes__lengthened(struct composing__Pen l1);
 static inline uint8_t composing__bytes__low(uint32_t l1);
-static inline struct composing__Pen composing__bytes__numbered(rt_slice l1, rt_slice l2, struct composing__Pen l3);
-static inline struct composing__Pen composing__bytes__pathed(rt_slice l1, struct composing__Pen l2);
-static inline struct composing__Pen composing__bytes__spoilt(struct composing__Pen l1);
-static inline struct composing__Pen composing__bytes__worded(rt_slice l1, struct composing__Pen l2, uint32_t l3);
-static inline struct composing__Pen composing__bytes__wrote(rt_slice l1, struct composing__Pen l2, uint8_t l3);
+static RT_HERE struct composing__Pen composing__bytes__numbered(rt_slice l1, rt_slice l2, struct composing__Pen l3);
+static RT_HERE struct composing__Pen composing__bytes__pathed(rt_slice l1, struct composing__Pen l2);
+static RT_HERE struct composing__Pen composing__bytes__spoilt(struct composing__Pen l1);
+static RT_HERE struct composing__Pen composing__bytes__worded(rt_slice l1, struct composing__Pen l2, uint32_t l3);
+static RT_HERE struct composing__Pen composing__bytes__wrote(rt_slice l1, struct composing__Pen l2, uint8_t l3);
 static inline uint64_t composing__header__row(rt_slice l1, rt_slice l2, uint64_t l3, uint64_t l4, uint64_t l5);
 static inline uint64_t composing__header__write_header(rt_slice l1, rt_slice l2, rt_slice l3, uint64_t l4);
 static inline uint32_t composing__literal(rt_slice l1, uint64_t l2, uint8_t l3);
 static inline uint32_t composing__number(struct resolve__Word l1);
-static inline struct composing__Pen composing__pouring__begun(rt_slice l1, rt_slice l2, struct composing__Pen l3);
-static inline struct composing__Pen composing__pouring__first(rt_slice l1, rt_slice l2, struct composing__Pen l3, uint8_t l4, uint8_t l5);
-static inline struct composing__Pen composing__pouring__poured(rt_slice l1, rt_slice l2, struct composing__Pen l3, uint8_t l4);
+static RT_HERE struct composing__Pen composing__pouring__begun(rt_slice l1, rt_slice l2, struct composing__Pen l3);
+static RT_HERE struct composing__Pen composing__pouring__first(rt_slice l1, rt_slice l2, struct composing__Pen l3, uint8_t l4, uint8_t l5);
+static RT_HERE struct composing__Pen composing__pouring__poured(rt_slice l1, rt_slice l2, struct composing__Pen l3, uint8_t l4);
 static inline uint8_t composing__pouring__tightness(uint8_t l1);
-static inline struct composing__Pen composing__roles__put(rt_slice l1, rt_slice l2, rt_slice l3, rt_slice l4, struct composing__Pen l5, uint8_t l6, uint32_t l7);
+static RT_HERE struct composing__Pen composing__roles__put(rt_slice l1, rt_slice l2, rt_slice l3, rt_slice l4, struct composing__Pen l5, uint8_t l6, uint32_t l7);
 static inline uint8_t composing__roomy(struct composing__Pen l1);
-static inline struct composing__Placed composing__stream(rt_slice l1, rt_slice l2, rt_slice l3, rt_slice l4, rt_slice l5, rt_slice l6, rt_slice l7);
+static RT_HERE struct composing__Placed composing__stream(rt_slice l1, rt_slice l2, rt_slice l3, rt_slice l4, rt_slice l5, rt_slice l6, rt_slice l7);
 static inline uint8_t composing__table__mark(rt_slice l1, uint64_t l2, uint64_t l3);
-static inline struct composing__Pen composing__waiting__counted(rt_slice l1, rt_slice l2, struct composing__Pen l3);
-static inline struct composing__Pen composing__waiting__more(rt_slice l1, struct composing__Pen l2, uint8_t l3);
-static inline struct composing__Pen composing__waiting__opened(rt_slice l1, struct composing__Pen l2, uint8_t l3);
-static inline struct composing__Pen composing__waiting__popped(struct composing__Pen l1);
-static inline struct composing__Pen composing__waiting__stacked(rt_slice l1, rt_slice l2, struct composing__Pen l3, uint8_t l4, uint8_t l5);
-static inline struct composing__Pen composing__write(rt_slice l1, rt_slice l2, rt_slice l3, rt_slice l4, rt_slice l5);
-static inline struct composing__Pen composing__written(rt_slice l1, rt_slice l2, rt_slice l3, rt_slice l4, rt_slice l5, rt_slice l6);
-static inline struct count_images__Counts count_images__answered(rt_slice l1, rt_slice l2, rt_slice l3, rt_slice l4, struct count_images__Asking l5, rt_slice l6, rt_slice l7);
-static inline struct count_images__Counts count_images__begun(struct seating__Opened l1, rt_slice l2, rt_slice l3, rt_slice l4, struct count_images__Question l5, rt_slice l6);
-static inline struct count_images__Counts count_images__count(rt_slice l1, rt_slice l2, uint32_t l3, uint32_t l4, uint32_t l5, rt_slice l6);
+static RT_HERE struct composing__Pen composing__waiting__counted(rt_slice l1, rt_slice l2, struct composing__Pen l3);
+static RT_HERE struct composing__Pen composing__waiting__more(rt_slice l1, struct composing__Pen l2, uint8_t l3);
+static RT_HERE struct composing__Pen composing__waiting__opened(rt_slice l1, struct composing__Pen l2, uint8_t l3);
+static RT_HERE struct composing__Pen composing__waiting__popped(struct composing__Pen l1);
+static RT_HERE struct composing__Pen composing__waiting__stacked(rt_slice l1, rt_slice l2, struct composing__Pen l3, uint8_t l4, uint8_t l5);
+static RT_HERE struct composing__Pen composing__write(rt_slice l1, rt_slice l2, rt_slice l3, rt_slice l4, rt_slice l5);
+static RT_HERE struct composing__Pen composing__written(rt_slice l1, rt_slice l2, rt_slice l3, rt_slice l4, rt_slice l5, rt_slice l6);
+static inline uint16_t core__num__wrapping_add_u16(uint16_t l1, uint16_t l2);
+static RT_APART struct count_images__Counts count_images__answered(rt_slice l1, rt_slice l2, rt_slice l3, rt_slice l4, struct count_images__Asking l5, rt_slice l6, rt_slice l7);
+static RT_APART struct count_images__Counts count_images__begun(struct seating__Opened l1, rt_slice l2, rt_slice l3, rt_slice l4, struct count_images__Question l5, rt_slice l6);
+static RT_APART struct count_images__Counts count_images__count(rt_slice l1, rt_slice l2, uint32_t l3, uint32_t l4, uint32_t l5, rt_slice l6);
 static inline uint8_t count_images__has_step(rt_slice l1, uint64_t l2, uint64_t l3);
 static inline uint8_t count_images__place_number(rt_slice l1, rt_slice l2, rt_slice l3, uint64_t l4, struct count_images__Question l5);
 static inline void count_images__prepared(rt_slice l1, rt_slice l2, rt_slice l3, struct count_images__Asking l4, rt_slice l5, rt_slice l6);
-static inline struct count_images__Counts count_images__refused(uint8_t l1);
+static RT_HERE struct count_images__Counts count_images__refused(uint8_t l1);
 static inline void counting__copies__cells(rt_slice l1, uint64_t l2, rt_slice l3);
 static inline void counting__copies__numbers(rt_slice l1, uint64_t l2, rt_slice l3);
 static inline struct counting__count__Tally counting__count__add(struct counting__count__Tally l1, struct counting__count__Tally l2);
@@ -722,31 +733,31 @@ static inline struct counting__count__Tally counting__count__nothing(void);
 static inline struct counting__count__Tally counting__count__one(struct engine__Machine l1, rt_slice l2, rt_slice l3, rt_slice l4, rt_slice l5, uint64_t l6, struct counting__count__Asked l7);
 static inline struct counting__count__Tally counting__count__resting(rt_slice l1, struct counting__count__Asked l2);
 static inline uint64_t counting__rows__fresh_row(uint64_t l1, uint64_t l2);
-static inline struct rt_array_uint16_6 counting__rows__numbers_of(rt_slice l1, uint64_t l2);
+static RT_HERE struct rt_array_uint16_6 counting__rows__numbers_of(rt_slice l1, uint64_t l2);
 static inline void counting__rows__restore(rt_slice l1, rt_slice l2, uint64_t l3, uint64_t l4, struct counting__rows__Saved l5);
-static inline struct rt_array_uint64_32 counting__rows__row_of(rt_slice l1, uint64_t l2);
+static RT_HERE struct rt_array_uint64_32 counting__rows__row_of(rt_slice l1, uint64_t l2);
 static inline struct counting__rows__Saved counting__rows__save(rt_slice l1, rt_slice l2, rt_slice l3, uint64_t l4, uint64_t l5);
 static inline uint64_t counting__rows__stored_at(rt_slice l1, rt_slice l2, rt_slice l3, uint64_t l4);
 static inline struct text_shape__Act derive__act_at(rt_slice l1, rt_slice l2, uint64_t l3);
-static inline struct derive__Mark derive__below(rt_slice l1, rt_slice l2, rt_slice l3, uint64_t l4, uint8_t l5);
-static inline struct derive__Mark derive__dead(void);
+static RT_HERE struct derive__Mark derive__below(rt_slice l1, rt_slice l2, rt_slice l3, uint64_t l4, uint8_t l5);
+static RT_HERE struct derive__Mark derive__dead(void);
 static inline uint8_t derive__derived(rt_slice l1, rt_slice l2);
 static inline uint8_t derive__ends(uint8_t l1, uint64_t l2);
 static inline uint64_t derive__entry(uint8_t l1, uint8_t l2);
 static inline uint64_t derive__index(uint8_t l1, uint8_t l2);
-static inline struct derive__Mark derive__moved(rt_slice l1, rt_slice l2, rt_slice l3, struct derive__Mark l4, uint8_t l5, uint64_t l6);
-static inline struct derive__Mark derive__pushed(rt_slice l1, uint64_t l2, uint8_t l3, uint8_t l4);
+static RT_HERE struct derive__Mark derive__moved(rt_slice l1, rt_slice l2, rt_slice l3, struct derive__Mark l4, uint8_t l5, uint64_t l6);
+static RT_HERE struct derive__Mark derive__pushed(rt_slice l1, uint64_t l2, uint8_t l3, uint8_t l4);
 static inline void derive__roles__amend(rt_slice l1, uint64_t l2, uint8_t l3);
 static inline void derive__roles__leave(rt_slice l1, uint64_t l2, uint64_t l3, uint8_t l4, uint8_t l5);
 static inline uint8_t derive__roles__renamed(uint8_t l1, uint8_t l2);
 static inline uint8_t derive__roles__role(rt_slice l1, rt_slice l2, struct derive__Mark l3, uint8_t l4, uint64_t l5);
 static inline uint8_t derive__roles__said(uint8_t l1, uint8_t l2);
 static inline uint8_t derive__roles__said_by(rt_slice l1, uint8_t l2, uint8_t l3);
-static inline struct derive__Mark derive__step(rt_slice l1, struct derive__Mark l2, uint8_t l3);
+static RT_HERE struct derive__Mark derive__step(rt_slice l1, struct derive__Mark l2, uint8_t l3);
 static inline uint8_t derive__table__mark(rt_slice l1, uint64_t l2);
 static inline uint8_t derive__table__number(rt_slice l1, uint64_t l2);
 static inline uint8_t derive__walk(rt_slice l1, rt_slice l2, rt_slice l3, rt_slice l4, rt_slice l5);
-static inline struct directory__rows__Sought directory__rows__find(rt_slice l1, uint8_t l2, uint8_t l3, uint8_t l4);
+static RT_HERE struct directory__rows__Sought directory__rows__find(rt_slice l1, uint8_t l2, uint8_t l3, uint8_t l4);
 static inline uint8_t directory__rows__is_row(struct directory__Row l1, uint16_t l2, uint16_t l3);
 static inline uint16_t directory__rows__look(rt_slice l1, uint64_t l2);
 static inline uint16_t directory__rows__number(uint8_t l1);
@@ -757,7 +768,7 @@ static inline void directory__rows__store(rt_slice l1, uint64_t l2, uint16_t l3)
 static inline uint8_t directory__rows__there(rt_slice l1, uint8_t l2, uint8_t l3, uint8_t l4);
 static inline struct emit__Put emit__exprs__expr(rt_slice l1, rt_slice l2, uint64_t l3, uint64_t l4, rt_slice l5, uint64_t l6);
 static inline struct emit__Put emit__exprs__make(rt_slice l1, rt_slice l2, uint64_t l3, uint64_t l4, rt_slice l5, uint64_t l6);
-static inline struct emit__Put emit__steps__step(rt_slice l1, rt_slice l2, uint64_t l3, rt_slice l4, uint64_t l5);
+static RT_HERE struct emit__Put emit__steps__step(rt_slice l1, rt_slice l2, uint64_t l3, rt_slice l4, uint64_t l5);
 static inline struct emit__Put emit__stmts__block(rt_slice l1, rt_slice l2, uint64_t l3, uint64_t l4, rt_slice l5, uint64_t l6);
 static inline struct emit__Put emit__stmts__body(rt_slice l1, rt_slice l2, uint64_t l3, uint64_t l4, rt_slice l5, uint64_t l6);
 static inline struct emit__Put emit__stmts__declare(rt_slice l1, rt_slice l2, uint64_t l3, rt_slice l4, uint64_t l5);
@@ -770,16 +781,16 @@ static inline uint64_t emit__words__leaf(rt_slice l1, uint64_t l2);
 static inline uint64_t emit__words__leaf_size(uint8_t l1);
 static inline uint64_t emit__words__null_word(uint8_t l1);
 static inline struct emit__Put emit__words__path(rt_slice l1, uint64_t l2, rt_slice l3, uint64_t l4);
-static inline struct emit__Put emit__words__reads(rt_slice l1, uint64_t l2, uint8_t l3, rt_slice l4, uint64_t l5);
+static RT_HERE struct emit__Put emit__words__reads(rt_slice l1, uint64_t l2, uint8_t l3, rt_slice l4, uint64_t l5);
 static inline void emit__words__store(rt_slice l1, uint64_t l2, uint64_t l3);
-static inline struct emit__Put emit__words__target(rt_slice l1, uint64_t l2, rt_slice l3, uint64_t l4);
-static inline struct emit__Put emit_steps__of_struct(rt_slice l1, rt_slice l2, struct emit__Put l3, rt_slice l4);
+static RT_HERE struct emit__Put emit__words__target(rt_slice l1, uint64_t l2, rt_slice l3, uint64_t l4);
+static RT_HERE struct emit__Put emit_steps__of_struct(rt_slice l1, rt_slice l2, struct emit__Put l3, rt_slice l4);
 static inline void emit_steps__program(rt_slice l1, rt_slice l2, uint64_t l3, rt_slice l4);
-static inline struct engine__Machine engine__Machine__advance(struct engine__Machine l1, rt_slice l2, rt_slice l3, rt_slice l4);
+static RT_HERE struct engine__Machine engine__Machine__advance(struct engine__Machine l1, rt_slice l2, rt_slice l3, rt_slice l4);
 static inline struct engine__Machine engine__Machine__command(struct engine__Machine l1, rt_slice l2, rt_slice l3, rt_slice l4, rt_slice l5, uint64_t l6);
-static inline struct layout__Numbers engine__after(struct layout__Numbers l1, struct execute_stack__Acted l2);
+static RT_HERE struct layout__Numbers engine__after(struct layout__Numbers l1, struct execute_stack__Acted l2);
 static inline uint64_t engine__left_holding(rt_slice l1, uint64_t l2, uint64_t l3);
-static inline struct layout__Numbers engine__turned(struct layout__Numbers l1, uint64_t l2);
+static RT_HERE struct layout__Numbers engine__turned(struct layout__Numbers l1, uint64_t l2);
 static inline struct execute_stack__Acted execute__perform(rt_slice l1, rt_slice l2, rt_slice l3, uint64_t l4, uint64_t l5, uint64_t l6);
 static inline struct execute_stack__Acted execute_construct__construct(rt_slice l1, rt_slice l2, rt_slice l3, struct execute_stack__Actor l4, uint64_t l5, uint64_t l6);
 static inline void execute_construct__copy(rt_slice l1, uint64_t l2, uint64_t l3, uint64_t l4);
@@ -795,26 +806,26 @@ static inline struct execute_stack__Acted execute_variables__replace(rt_slice l1
 static inline struct execute_stack__Acted execute_variables__write(rt_slice l1, rt_slice l2, rt_slice l3, struct execute_stack__Actor l4, uint64_t l5);
 static inline uint64_t holders__holder(rt_slice l1, uint64_t l2, uint64_t l3, uint64_t l4);
 static inline uint64_t holders__holder_of(struct rt_array_holders__Record_256 l1, uint64_t l2, uint64_t l3, uint64_t l4);
-static inline struct rt_array_holders__Record_256 holders__records(rt_slice l1, uint64_t l2);
-static inline struct engine__Machine interpreter__moving__settle(struct engine__Machine l1, rt_slice l2, rt_slice l3, rt_slice l4);
-static inline struct interpreter__turns__Going interpreter__turns__going_at(struct engine__Machine l1, uint64_t l2, struct holders__Record l3, rt_slice l4);
-static inline struct interpreter__turns__Going interpreter__turns__resting(struct engine__Machine l1, uint64_t l2, struct holders__Record l3, uint8_t l4);
-static inline struct interpreter__turns__Ran interpreter__turns__run(struct engine__Machine l1, rt_slice l2, rt_slice l3, rt_slice l4, rt_slice l5, rt_slice l6, rt_slice l7, rt_slice l8);
-static inline struct interpreter__turns__Going interpreter__turns__take_turns(struct interpreter__turns__Going l1, struct rt_array_holders__Record_256 l2, rt_slice l3, rt_slice l4, rt_slice l5, rt_slice l6, rt_slice l7);
-static inline struct interpreter__turns__Going interpreter__turns__turn(struct interpreter__turns__Going l1, uint64_t l2, rt_slice l3, rt_slice l4, rt_slice l5, rt_slice l6, rt_slice l7);
+static RT_HERE struct rt_array_holders__Record_256 holders__records(rt_slice l1, uint64_t l2);
+static RT_HERE struct engine__Machine interpreter__moving__settle(struct engine__Machine l1, rt_slice l2, rt_slice l3, rt_slice l4);
+static RT_HERE struct interpreter__turns__Going interpreter__turns__going_at(struct engine__Machine l1, uint64_t l2, struct holders__Record l3, rt_slice l4);
+static RT_HERE struct interpreter__turns__Going interpreter__turns__resting(struct engine__Machine l1, uint64_t l2, struct holders__Record l3, uint8_t l4);
+static RT_HERE struct interpreter__turns__Ran interpreter__turns__run(struct engine__Machine l1, rt_slice l2, rt_slice l3, rt_slice l4, rt_slice l5, rt_slice l6, rt_slice l7, rt_slice l8);
+static RT_HERE struct interpreter__turns__Going interpreter__turns__take_turns(struct interpreter__turns__Going l1, struct rt_array_holders__Record_256 l2, rt_slice l3, rt_slice l4, rt_slice l5, rt_slice l6, rt_slice l7);
+static RT_HERE struct interpreter__turns__Going interpreter__turns__turn(struct interpreter__turns__Going l1, uint64_t l2, rt_slice l3, rt_slice l4, rt_slice l5, rt_slice l6, rt_slice l7);
 static inline uint8_t judging__digits__digit(uint64_t l1, uint8_t l2);
 static inline uint64_t judging__digits__mark(uint64_t l1, uint8_t l2, uint8_t l3);
 static inline uint64_t judging__digits__power(uint8_t l1);
 static inline struct judge__Facts judging__expression__appended(uint8_t l1, uint8_t l2, struct judge__Facts l3, struct judge__Facts l4);
-static inline struct judge__Facts judging__expression__combined(uint8_t l1, struct judge__Facts l2, struct judge__Facts l3);
+static RT_HERE struct judge__Facts judging__expression__combined(uint8_t l1, struct judge__Facts l2, struct judge__Facts l3);
 static inline struct judge__Facts judging__expression__constructed(uint8_t l1, struct judge__Facts l2);
 static inline uint8_t judging__expression__gives(uint8_t l1, uint8_t l2);
 static inline uint64_t judging__expression__higher(uint64_t l1, uint64_t l2);
-static inline struct judge__Facts judging__expression__negated(struct judge__Facts l1);
+static RT_HERE struct judge__Facts judging__expression__negated(struct judge__Facts l1);
 static inline struct judge__Facts judging__expression__no_args(void);
-static inline struct judge__Facts judging__expression__pushed(uint8_t l1);
+static RT_HERE struct judge__Facts judging__expression__pushed(uint8_t l1);
 static inline uint8_t judging__expression__takes(uint8_t l1, uint8_t l2, uint8_t l3);
-static inline struct judge__Facts judging__expression__travelled(uint8_t l1, struct judge__Judged l2);
+static RT_HERE struct judge__Facts judging__expression__travelled(uint8_t l1, struct judge__Judged l2);
 static inline uint8_t judging__fault__demand(uint8_t l1, uint8_t l2);
 static inline uint8_t judging__fault__named(uint8_t l1);
 static inline uint8_t judging__fault__worst(uint8_t l1, uint8_t l2);
@@ -824,15 +835,15 @@ static inline uint8_t judging__path__look(rt_slice l1, uint64_t l2);
 static inline struct judge__Judged judging__path__param(rt_slice l1, rt_slice l2, uint8_t l3, uint8_t l4, uint8_t l5);
 static inline struct judge__Judged judging__path__start(rt_slice l1, rt_slice l2, uint8_t l3, uint64_t l4, uint8_t l5);
 static inline uint8_t judging__path__type_at(rt_slice l1, uint8_t l2, uint8_t l3);
-static inline struct judge__Done judging__statement__branched(struct judge__Scope l1, struct judge__Facts l2, struct judge__Done l3);
-static inline struct judge__Done judging__statement__declared(struct judge__Scope l1, uint8_t l2, uint8_t l3, struct judge__Facts l4);
+static RT_HERE struct judge__Done judging__statement__branched(struct judge__Scope l1, struct judge__Facts l2, struct judge__Done l3);
+static RT_HERE struct judge__Done judging__statement__declared(struct judge__Scope l1, uint8_t l2, uint8_t l3, struct judge__Facts l4);
 static inline struct judge__Done judging__statement__followed(struct judge__Done l1, struct judge__Done l2);
 static inline struct judge__Done judging__statement__nothing(struct judge__Scope l1);
-static inline struct judge__Done judging__statement__updated(struct judge__Scope l1, uint8_t l2, struct judge__Judged l3, struct judge__Facts l4);
+static RT_HERE struct judge__Done judging__statement__updated(struct judge__Scope l1, uint8_t l2, struct judge__Judged l3, struct judge__Facts l4);
 static inline void layout__begin(rt_slice l1, uint64_t l2, uint16_t l3, uint16_t l4);
 static inline uint64_t layout__cell(uint8_t l1, uint64_t l2);
 static inline uint8_t layout__due(struct layout__Numbers l1);
-static inline struct layout__Numbers layout__fresh(uint64_t l1);
+static RT_HERE struct layout__Numbers layout__fresh(uint64_t l1);
 static inline void layout__go(rt_slice l1, uint64_t l2, uint64_t l3, uint64_t l4);
 static inline uint64_t layout__head(rt_slice l1, uint64_t l2, uint64_t l3);
 static inline uint8_t layout__holds(rt_slice l1, uint64_t l2);
@@ -854,8 +865,8 @@ static inline uint64_t lexer__bytes__name_end(rt_slice l1, uint64_t l2);
 static inline uint8_t lexer__bytes__opens(uint8_t l1, uint8_t l2);
 static inline uint64_t lexer__bytes__run_end(rt_slice l1, uint64_t l2, uint8_t l3);
 static inline uint8_t lexer__bytes__signed(uint8_t l1, uint8_t l2);
-static inline struct tokens__Spot lexer__comment(uint64_t l1);
-static inline struct tokens__Spot lexer__followed(uint8_t l1, uint8_t l2, uint8_t l3, uint8_t l4);
+static RT_HERE struct tokens__Spot lexer__comment(uint64_t l1);
+static RT_HERE struct tokens__Spot lexer__followed(uint8_t l1, uint8_t l2, uint8_t l3, uint8_t l4);
 static inline uint64_t lexer__gaps__back_within(rt_slice l1, uint64_t l2, uint64_t l3);
 static inline uint64_t lexer__gaps__beyond(rt_slice l1, uint64_t l2);
 static inline uint8_t lexer__gaps__eight(rt_slice l1, uint64_t l2);
@@ -866,69 +877,69 @@ static inline uint8_t lexer__gaps__four(rt_slice l1, uint64_t l2);
 static inline uint64_t lexer__gaps__next(rt_slice l1, uint64_t l2);
 static inline uint64_t lexer__gaps__start(rt_slice l1, uint64_t l2);
 static inline uint64_t lexer__gaps__within(rt_slice l1, uint64_t l2, uint64_t l3);
-static inline struct tokens__Spot lexer__longer(rt_slice l1, uint64_t l2);
+static RT_HERE struct tokens__Spot lexer__longer(rt_slice l1, uint64_t l2);
 static inline uint8_t lexer__mark(rt_slice l1, rt_slice l2);
-static inline struct tokens__Spot lexer__name(rt_slice l1, uint64_t l2);
-static inline struct tokens__Spot lexer__nat(rt_slice l1, uint64_t l2);
-static inline struct tokens__Spot lexer__other(rt_slice l1, uint64_t l2);
-static inline struct tokens__Spot lexer__sign(uint8_t l1, uint8_t l2);
-static inline struct tokens__Spot lexer__token(rt_slice l1, uint64_t l2);
+static RT_HERE struct tokens__Spot lexer__name(rt_slice l1, uint64_t l2);
+static RT_HERE struct tokens__Spot lexer__nat(rt_slice l1, uint64_t l2);
+static RT_HERE struct tokens__Spot lexer__other(rt_slice l1, uint64_t l2);
+static RT_HERE struct tokens__Spot lexer__sign(uint8_t l1, uint8_t l2);
+static RT_HERE struct tokens__Spot lexer__token(rt_slice l1, uint64_t l2);
 static inline uint8_t lexer__words__kind(rt_slice l1);
 static inline uint8_t lexer__words__only(rt_slice l1, uint8_t l2, rt_slice l3);
 static inline uint8_t lexer__words__same(rt_slice l1, rt_slice l2);
 static inline uint8_t lexer__words__with_t(rt_slice l1);
-static inline uint64_t listing__image__listing(rt_slice l1, rt_slice l2);
+static RT_APART uint64_t listing__image__listing(rt_slice l1, rt_slice l2);
 static inline uint64_t little_endian__index(uint8_t l1);
 static inline uint64_t little_endian__pair_at(rt_slice l1, uint64_t l2);
 static inline void little_endian__put_pair(rt_slice l1, uint64_t l2, uint64_t l3);
 static inline void little_endian__put_word(rt_slice l1, uint64_t l2, uint64_t l3);
 static inline uint64_t little_endian__wide(uint8_t l1);
 static inline uint64_t little_endian__word_at(rt_slice l1, uint64_t l2);
-static inline struct load__Load load__of_stream(rt_slice l1, rt_slice l2, rt_slice l3, rt_slice l4);
-static inline struct load__Load load__program(rt_slice l1, rt_slice l2, rt_slice l3, rt_slice l4, rt_slice l5);
+static RT_HERE struct load__Load load__of_stream(rt_slice l1, rt_slice l2, rt_slice l3, rt_slice l4);
+static RT_HERE struct load__Load load__program(rt_slice l1, rt_slice l2, rt_slice l3, rt_slice l4, rt_slice l5);
 static inline uint8_t load__refusal(struct load__Load l1);
-static inline struct load__Loaded load__summed(uint64_t l1, uint64_t l2, struct read_program__Summary l3);
+static RT_HERE struct load__Loaded load__summed(uint64_t l1, uint64_t l2, struct read_program__Summary l3);
 static inline struct read_exprs__read__ExprRead read_exprs__expr__anew(struct read_exprs__read__ExprRead l1);
 static inline struct read_exprs__read__ExprRead read_exprs__expr__around(struct read_exprs__read__ExprRead l1);
 static inline struct read_exprs__read__ExprRead read_exprs__expr__beside(uint8_t l1, struct judge__Facts l2, struct read_exprs__read__ExprRead l3);
 static inline struct read_exprs__read__ExprRead read_exprs__expr__construct(rt_slice l1, rt_slice l2, rt_slice l3, uint8_t l4, uint64_t l5, uint64_t l6, uint64_t l7);
 static inline struct read_exprs__read__ExprRead read_exprs__expr__expr(rt_slice l1, rt_slice l2, rt_slice l3, uint8_t l4, uint64_t l5, uint64_t l6, uint64_t l7);
-static inline struct read_exprs__read__ExprRead read_exprs__leaf__bool_byte(rt_slice l1, uint64_t l2);
+static RT_HERE struct read_exprs__read__ExprRead read_exprs__leaf__bool_byte(rt_slice l1, uint64_t l2);
 static inline struct read_exprs__read__ExprRead read_exprs__leaf__leaf(rt_slice l1, rt_slice l2, rt_slice l3, uint8_t l4, uint64_t l5, uint8_t l6, uint64_t l7);
-static inline struct read_exprs__read__ExprRead read_exprs__leaf__null(rt_slice l1, uint64_t l2, uint64_t l3);
-static inline struct read_exprs__read__ExprRead read_exprs__leaf__travel(rt_slice l1, rt_slice l2, rt_slice l3, uint8_t l4, uint64_t l5, uint64_t l6);
-static inline struct read_exprs__read__ExprRead read_exprs__leaf__word(rt_slice l1, uint8_t l2, uint64_t l3);
-static inline struct read_exprs__read__PathRead read_exprs__path__first(rt_slice l1, rt_slice l2, rt_slice l3, uint8_t l4, uint64_t l5, uint8_t l6, uint64_t l7);
-static inline struct read_exprs__read__PathRead read_exprs__path__follow(rt_slice l1, rt_slice l2, rt_slice l3, struct judge__Judged l4, uint8_t l5, uint8_t l6, uint64_t l7);
-static inline struct read_exprs__read__PathRead read_exprs__path__path(rt_slice l1, rt_slice l2, rt_slice l3, uint8_t l4, uint64_t l5, uint64_t l6);
+static RT_HERE struct read_exprs__read__ExprRead read_exprs__leaf__null(rt_slice l1, uint64_t l2, uint64_t l3);
+static RT_HERE struct read_exprs__read__ExprRead read_exprs__leaf__travel(rt_slice l1, rt_slice l2, rt_slice l3, uint8_t l4, uint64_t l5, uint64_t l6);
+static RT_HERE struct read_exprs__read__ExprRead read_exprs__leaf__word(rt_slice l1, uint8_t l2, uint64_t l3);
+static RT_HERE struct read_exprs__read__PathRead read_exprs__path__first(rt_slice l1, rt_slice l2, rt_slice l3, uint8_t l4, uint64_t l5, uint8_t l6, uint64_t l7);
+static RT_HERE struct read_exprs__read__PathRead read_exprs__path__follow(rt_slice l1, rt_slice l2, rt_slice l3, struct judge__Judged l4, uint8_t l5, uint8_t l6, uint64_t l7);
+static RT_HERE struct read_exprs__read__PathRead read_exprs__path__path(rt_slice l1, rt_slice l2, rt_slice l3, uint8_t l4, uint64_t l5, uint64_t l6);
 static inline uint8_t read_exprs__read__byte_refusal(struct read_exprs__read__ByteRead l1);
 static inline uint8_t read_exprs__read__expr_refusal(struct read_exprs__read__ExprRead l1);
 static inline uint8_t read_exprs__read__is_type(uint64_t l1, uint8_t l2);
 static inline uint8_t read_exprs__read__path_refusal(struct read_exprs__read__PathRead l1);
 static inline struct read_exprs__read__ByteRead read_exprs__read__ranged(rt_slice l1, uint64_t l2, uint64_t l3, uint64_t l4);
-static inline struct read_exprs__read__ByteRead read_exprs__read__type_byte(rt_slice l1, uint64_t l2, uint64_t l3);
+static RT_HERE struct read_exprs__read__ByteRead read_exprs__read__type_byte(rt_slice l1, uint64_t l2, uint64_t l3);
 static inline void read_params__clear(rt_slice l1, uint8_t l2, uint64_t l3);
-static inline struct read_params__PlaceRead read_params__list(rt_slice l1, rt_slice l2, rt_slice l3, uint8_t l4, uint8_t l5, uint64_t l6);
-static inline struct read_params__PlaceRead read_params__lists(rt_slice l1, rt_slice l2, rt_slice l3, uint8_t l4, uint8_t l5, uint8_t l6, uint64_t l7);
-static inline struct read_params__ParamsRead read_params__params(rt_slice l1, rt_slice l2, rt_slice l3);
+static RT_HERE struct read_params__PlaceRead read_params__list(rt_slice l1, rt_slice l2, rt_slice l3, uint8_t l4, uint8_t l5, uint64_t l6);
+static RT_HERE struct read_params__PlaceRead read_params__lists(rt_slice l1, rt_slice l2, rt_slice l3, uint8_t l4, uint8_t l5, uint8_t l6, uint64_t l7);
+static RT_HERE struct read_params__ParamsRead read_params__params(rt_slice l1, rt_slice l2, rt_slice l3);
 static inline uint8_t read_params__params_refusal(struct read_params__ParamsRead l1);
 static inline uint8_t read_params__place_refusal(struct read_params__PlaceRead l1);
-static inline struct read_params__PlaceRead read_params__row(rt_slice l1, rt_slice l2, uint8_t l3, uint8_t l4, uint8_t l5, uint64_t l6, uint64_t l7);
-static inline struct read_program__ProgramRead read_program__end(rt_slice l1, rt_slice l2, uint8_t l3, uint64_t l4, struct read_program__totals__Totals l5, uint64_t l6);
+static RT_HERE struct read_params__PlaceRead read_params__row(rt_slice l1, rt_slice l2, uint8_t l3, uint8_t l4, uint8_t l5, uint64_t l6, uint64_t l7);
+static RT_HERE struct read_program__ProgramRead read_program__end(rt_slice l1, rt_slice l2, uint8_t l3, uint64_t l4, struct read_program__totals__Totals l5, uint64_t l6);
 static inline uint8_t read_program__number(struct read_program__totals__Totals l1, struct read_schedule__Planned l2);
-static inline struct read_program__ProgramRead read_program__program(rt_slice l1, rt_slice l2, rt_slice l3, rt_slice l4);
+static RT_HERE struct read_program__ProgramRead read_program__program(rt_slice l1, rt_slice l2, rt_slice l3, rt_slice l4);
 static inline uint8_t read_program__program_refusal(struct read_program__ProgramRead l1);
-static inline struct read_program__ProgramRead read_program__rest(rt_slice l1, rt_slice l2, rt_slice l3, rt_slice l4, uint8_t l5, uint64_t l6);
-static inline struct read_program__Summary read_program__summed(uint8_t l1, uint64_t l2, struct read_program__totals__Totals l3, struct read_schedule__Planned l4);
+static RT_HERE struct read_program__ProgramRead read_program__rest(rt_slice l1, rt_slice l2, rt_slice l3, rt_slice l4, uint8_t l5, uint64_t l6);
+static RT_HERE struct read_program__Summary read_program__summed(uint8_t l1, uint64_t l2, struct read_program__totals__Totals l3, struct read_schedule__Planned l4);
 static inline uint8_t read_program__totals__listed(rt_slice l1, uint64_t l2, uint8_t l3, uint8_t l4);
-static inline struct read_program__totals__Totals read_program__totals__none(void);
+static RT_HERE struct read_program__totals__Totals read_program__totals__none(void);
 static inline uint8_t read_program__totals__noted(rt_slice l1, uint8_t l2, uint8_t l3, struct read_program__totals__Totals l4, struct judge__Done l5);
-static inline struct read_program__totals__TotalsRead read_program__totals__of_struct(rt_slice l1, rt_slice l2, rt_slice l3, rt_slice l4, uint8_t l5, struct read_program__totals__Totals l6, uint64_t l7);
+static RT_HERE struct read_program__totals__TotalsRead read_program__totals__of_struct(rt_slice l1, rt_slice l2, rt_slice l3, rt_slice l4, uint8_t l5, struct read_program__totals__Totals l6, uint64_t l7);
 static inline uint8_t read_program__totals__over(uint8_t l1, struct judge__Done l2);
-static inline struct read_program__totals__Totals read_program__totals__plus(struct read_program__totals__Totals l1, struct judge__Done l2, uint8_t l3);
-static inline struct read_program__totals__TotalsRead read_program__totals__step(rt_slice l1, rt_slice l2, rt_slice l3, rt_slice l4, uint8_t l5, struct read_program__totals__Totals l6, uint64_t l7);
+static RT_HERE struct read_program__totals__Totals read_program__totals__plus(struct read_program__totals__Totals l1, struct judge__Done l2, uint8_t l3);
+static RT_HERE struct read_program__totals__TotalsRead read_program__totals__step(rt_slice l1, rt_slice l2, rt_slice l3, rt_slice l4, uint8_t l5, struct read_program__totals__Totals l6, uint64_t l7);
 static inline uint8_t read_program__totals__stmt_refusal(struct read_stmts__StmtRead l1);
-static inline struct read_program__totals__TotalsRead read_program__totals__structs(rt_slice l1, rt_slice l2, rt_slice l3, rt_slice l4, uint8_t l5, struct read_program__totals__Totals l6, uint64_t l7);
+static RT_HERE struct read_program__totals__TotalsRead read_program__totals__structs(rt_slice l1, rt_slice l2, rt_slice l3, rt_slice l4, uint8_t l5, struct read_program__totals__Totals l6, uint64_t l7);
 static inline uint8_t read_program__totals__totals_refusal(struct read_program__totals__TotalsRead l1);
 static inline struct read_schedule__PlanRead read_schedule__around(struct read_schedule__PlanRead l1);
 static inline struct read_schedule__PlanRead read_schedule__call(rt_slice l1, rt_slice l2, uint8_t l3, uint8_t l4, uint64_t l5);
@@ -937,25 +948,25 @@ static inline uint8_t read_schedule__had(rt_slice l1, uint8_t l2, uint8_t l3, ui
 static inline struct read_schedule__PlanRead read_schedule__item(rt_slice l1, rt_slice l2, uint8_t l3, uint8_t l4, uint64_t l5, uint64_t l6);
 static inline struct read_schedule__PlanRead read_schedule__items(rt_slice l1, rt_slice l2, uint8_t l3, uint8_t l4, uint64_t l5, uint64_t l6);
 static inline struct read_schedule__Planned read_schedule__joined(struct read_schedule__Planned l1, struct read_schedule__Planned l2);
-static inline struct read_schedule__Planned read_schedule__one(uint8_t l1);
+static RT_HERE struct read_schedule__Planned read_schedule__one(uint8_t l1);
 static inline uint8_t read_schedule__plan_refusal(struct read_schedule__PlanRead l1);
 static inline struct read_stmts__StmtRead read_stmts__made__branched(struct judge__Scope l1, struct judge__Facts l2, struct read_stmts__StmtRead l3);
-static inline struct read_stmts__StmtRead read_stmts__made__declared(struct judge__Scope l1, uint8_t l2, uint8_t l3, struct read_exprs__read__ExprRead l4);
-static inline struct read_stmts__StmtRead read_stmts__made__labelled(struct judge__Scope l1, struct read_exprs__read__ExprRead l2);
-static inline struct read_stmts__StmtRead read_stmts__made__updated(struct judge__Scope l1, uint8_t l2, struct judge__Judged l3, struct read_exprs__read__ExprRead l4);
-static inline struct read_stmts__StmtRead read_stmts__simple__create(rt_slice l1, rt_slice l2, rt_slice l3, uint8_t l4, struct judge__Scope l5, uint64_t l6);
-static inline struct read_stmts__StmtRead read_stmts__simple__declare(rt_slice l1, rt_slice l2, rt_slice l3, uint8_t l4, struct judge__Scope l5, uint64_t l6);
-static inline struct read_stmts__StmtRead read_stmts__simple__local(rt_slice l1, rt_slice l2, rt_slice l3, uint8_t l4, struct judge__Scope l5, uint8_t l6, uint64_t l7);
+static RT_HERE struct read_stmts__StmtRead read_stmts__made__declared(struct judge__Scope l1, uint8_t l2, uint8_t l3, struct read_exprs__read__ExprRead l4);
+static RT_HERE struct read_stmts__StmtRead read_stmts__made__labelled(struct judge__Scope l1, struct read_exprs__read__ExprRead l2);
+static RT_HERE struct read_stmts__StmtRead read_stmts__made__updated(struct judge__Scope l1, uint8_t l2, struct judge__Judged l3, struct read_exprs__read__ExprRead l4);
+static RT_HERE struct read_stmts__StmtRead read_stmts__simple__create(rt_slice l1, rt_slice l2, rt_slice l3, uint8_t l4, struct judge__Scope l5, uint64_t l6);
+static RT_HERE struct read_stmts__StmtRead read_stmts__simple__declare(rt_slice l1, rt_slice l2, rt_slice l3, uint8_t l4, struct judge__Scope l5, uint64_t l6);
+static RT_HERE struct read_stmts__StmtRead read_stmts__simple__local(rt_slice l1, rt_slice l2, rt_slice l3, uint8_t l4, struct judge__Scope l5, uint8_t l6, uint64_t l7);
 static inline struct read_stmts__StmtRead read_stmts__simple__simple(rt_slice l1, rt_slice l2, rt_slice l3, uint8_t l4, struct judge__Scope l5, uint8_t l6, uint64_t l7);
-static inline struct read_stmts__StmtRead read_stmts__simple__update(rt_slice l1, rt_slice l2, rt_slice l3, uint8_t l4, struct judge__Scope l5, uint64_t l6);
+static RT_HERE struct read_stmts__StmtRead read_stmts__simple__update(rt_slice l1, rt_slice l2, rt_slice l3, uint8_t l4, struct judge__Scope l5, uint64_t l6);
 static inline struct read_stmts__StmtRead read_stmts__stmt__body(rt_slice l1, rt_slice l2, rt_slice l3, uint8_t l4, struct judge__Scope l5, uint64_t l6, uint64_t l7);
 static inline struct read_stmts__StmtRead read_stmts__stmt__stmt(rt_slice l1, rt_slice l2, rt_slice l3, uint8_t l4, struct judge__Scope l5, uint64_t l6, uint64_t l7);
 static inline struct read_stmts__StmtRead read_stmts__stmt__when(rt_slice l1, rt_slice l2, rt_slice l3, uint8_t l4, struct judge__Scope l5, uint64_t l6, uint64_t l7);
-static inline struct composing__Placed read_text__composed(rt_slice l1, rt_slice l2, rt_slice l3, rt_slice l4, rt_slice l5, rt_slice l6);
+static RT_HERE struct composing__Placed read_text__composed(rt_slice l1, rt_slice l2, rt_slice l3, rt_slice l4, rt_slice l5, rt_slice l6);
 static inline struct read_text__Answer read_text__imaged(rt_slice l1, rt_slice l2);
-static inline struct read_text__Answer read_text__meant(rt_slice l1, rt_slice l2, rt_slice l3, rt_slice l4);
+static RT_APART struct read_text__Answer read_text__meant(rt_slice l1, rt_slice l2, rt_slice l3, rt_slice l4);
 static inline struct read_text__Answer read_text__passes(rt_slice l1, rt_slice l2, rt_slice l3, rt_slice l4);
-static inline struct read_text__Answer read_text__read(rt_slice l1, rt_slice l2);
+static RT_APART struct read_text__Answer read_text__read(rt_slice l1, rt_slice l2);
 static inline struct read_text__Answer read_text__refused(uint8_t l1);
 static inline uint8_t resolve__declarations__few(uint64_t l1, uint64_t l2);
 static inline uint8_t resolve__declarations__is_new(rt_slice l1, rt_slice l2, uint64_t l3, uint64_t l4);
@@ -979,44 +990,43 @@ static inline uint64_t resolve__tables__add(rt_slice l1, uint64_t l2, uint64_t l
 static inline uint64_t resolve__tables__counted(uint64_t l1, uint8_t l2);
 static inline uint8_t resolve__tables__distinct(rt_slice l1, rt_slice l2);
 static inline void resolve__tables__put(rt_slice l1, uint64_t l2, uint64_t l3);
-static inline struct run_images__Report run_images__begun(struct seating__Opened l1, rt_slice l2, rt_slice l3, rt_slice l4, rt_slice l5, rt_slice l6, rt_slice l7);
-static inline struct run_images__Report run_images__refused(uint8_t l1);
-static inline struct run_images__Report run_images__reported(rt_slice l1, rt_slice l2, rt_slice l3, struct interpreter__turns__Ran l4, uint8_t l5, rt_slice l6, rt_slice l7);
+static RT_APART struct run_images__Report run_images__begun(struct seating__Opened l1, rt_slice l2, rt_slice l3, rt_slice l4, rt_slice l5, rt_slice l6, rt_slice l7);
+static RT_HERE struct run_images__Report run_images__refused(uint8_t l1);
+static RT_HERE struct run_images__Report run_images__reported(rt_slice l1, rt_slice l2, rt_slice l3, struct interpreter__turns__Ran l4, uint8_t l5, rt_slice l6, rt_slice l7);
 static inline uint8_t run_images__room(uint64_t l1, uint64_t l2, uint64_t l3);
-static inline struct run_images__Report run_images__run(rt_slice l1, rt_slice l2, rt_slice l3, rt_slice l4, rt_slice l5);
+static RT_APART struct run_images__Report run_images__run(rt_slice l1, rt_slice l2, rt_slice l3, rt_slice l4, rt_slice l5);
 static inline void scheduler__begin__begin_all(rt_slice l1, rt_slice l2, uint64_t l3, uint64_t l4);
 static inline void scheduler__begin__begin_one(rt_slice l1, rt_slice l2, uint64_t l3, uint64_t l4);
 static inline uint8_t scheduler__begin__means(uint64_t l1, uint64_t l2);
 static inline uint64_t scheduler__count__holding(rt_slice l1, uint64_t l2);
-static inline struct layout__Numbers scheduler__schedule__advance(struct layout__Numbers l1, rt_slice l2, rt_slice l3, rt_slice l4);
-static inline struct layout__Numbers scheduler__schedule__fix(struct layout__Numbers l1);
-static inline struct layout__Numbers scheduler__schedule__round(uint64_t l1, struct layout__Numbers l2);
-static inline struct load__Load seating__admit(rt_slice l1, rt_slice l2, rt_slice l3, rt_slice l4, rt_slice l5);
+static RT_HERE struct layout__Numbers scheduler__schedule__advance(struct layout__Numbers l1, rt_slice l2, rt_slice l3, rt_slice l4);
+static RT_HERE struct layout__Numbers scheduler__schedule__fix(struct layout__Numbers l1);
+static RT_HERE struct layout__Numbers scheduler__schedule__round(uint64_t l1, struct layout__Numbers l2);
+static RT_APART struct load__Load seating__admit(rt_slice l1, rt_slice l2, rt_slice l3, rt_slice l4, rt_slice l5);
 static inline uint8_t seating__refusal(struct seating__SeatRead l1);
-static inline struct seating__SeatRead seating__seat_table(uint64_t l1, rt_slice l2, rt_slice l3, rt_slice l4, rt_slice l5, rt_slice l6, rt_slice l7);
+static RT_HERE struct seating__SeatRead seating__seat_table(uint64_t l1, rt_slice l2, rt_slice l3, rt_slice l4, rt_slice l5, rt_slice l6, rt_slice l7);
 static inline uint8_t seating__table_refusal(struct table_read__TableRead l1);
-static inline uint16_t std__num__wrapping_add_u16(uint16_t l1, uint16_t l2);
 static inline uint8_t step_lines__byte(uint16_t l1);
 static inline uint64_t step_lines__program(rt_slice l1, uint64_t l2, rt_slice l3, rt_slice l4, uint64_t l5);
 static inline uint64_t step_lines__step(rt_slice l1, struct directory__Row l2, rt_slice l3, uint64_t l4);
-static inline struct step_part__Spot step_part__locate(rt_slice l1, uint8_t l2, uint8_t l3);
-static inline struct step_part__Spot step_part__nowhere(uint8_t l1);
-static inline struct step_part__Spot step_part__spotted(struct directory__rows__Sought l1);
-static inline struct step_part__Spot step_part__step_place(rt_slice l1, rt_slice l2, uint8_t l3, uint8_t l4);
-static inline struct table_read__TableRead table_read__behind(rt_slice l1, rt_slice l2, rt_slice l3, uint64_t l4, rt_slice l5, rt_slice l6);
+static RT_APART struct step_part__Spot step_part__locate(rt_slice l1, uint8_t l2, uint8_t l3);
+static RT_HERE struct step_part__Spot step_part__nowhere(uint8_t l1);
+static RT_HERE struct step_part__Spot step_part__spotted(struct directory__rows__Sought l1);
+static RT_HERE struct step_part__Spot step_part__step_place(rt_slice l1, rt_slice l2, uint8_t l3, uint8_t l4);
+static RT_HERE struct table_read__TableRead table_read__behind(rt_slice l1, rt_slice l2, rt_slice l3, uint64_t l4, rt_slice l5, rt_slice l6);
 static inline void table_read__nulls__defaults(rt_slice l1, uint64_t l2, uint64_t l3, rt_slice l4, uint64_t l5);
 static inline uint64_t table_read__nulls__null_cell(uint8_t l1);
 static inline void table_read__nulls__nulls(rt_slice l1, rt_slice l2, rt_slice l3, rt_slice l4);
-static inline struct table_read__TableRead table_read__read(rt_slice l1, rt_slice l2, rt_slice l3, rt_slice l4, rt_slice l5);
-static inline struct table_read__TableRead table_read__read_image(rt_slice l1, rt_slice l2, rt_slice l3, rt_slice l4, rt_slice l5, rt_slice l6);
+static RT_HERE struct table_read__TableRead table_read__read(rt_slice l1, rt_slice l2, rt_slice l3, rt_slice l4, rt_slice l5);
+static RT_HERE struct table_read__TableRead table_read__read_image(rt_slice l1, rt_slice l2, rt_slice l3, rt_slice l4, rt_slice l5, rt_slice l6);
 static inline uint8_t table_read__reading__allowed(uint8_t l1, uint64_t l2);
-static inline struct table_read__reading__CountRead table_read__reading__count(rt_slice l1, uint64_t l2);
+static RT_HERE struct table_read__reading__CountRead table_read__reading__count(rt_slice l1, uint64_t l2);
 static inline uint8_t table_read__reading__count_refusal(struct table_read__reading__CountRead l1);
-static inline struct table_read__reading__PlaceRead table_read__reading__one_record(rt_slice l1, rt_slice l2, rt_slice l3, uint64_t l4, rt_slice l5, rt_slice l6, uint64_t l7);
+static RT_HERE struct table_read__reading__PlaceRead table_read__reading__one_record(rt_slice l1, rt_slice l2, rt_slice l3, uint64_t l4, rt_slice l5, rt_slice l6, uint64_t l7);
 static inline uint8_t table_read__reading__place_refusal(struct table_read__reading__PlaceRead l1);
-static inline struct table_read__reading__PlaceRead table_read__reading__records(rt_slice l1, rt_slice l2, rt_slice l3, uint64_t l4, uint64_t l5, rt_slice l6, rt_slice l7);
-static inline struct table_read__reading__PlaceRead table_read__reading__value(rt_slice l1, uint8_t l2, uint64_t l3, rt_slice l4, uint64_t l5);
-static inline struct table_read__reading__PlaceRead table_read__reading__values(rt_slice l1, rt_slice l2, uint64_t l3, uint64_t l4, uint64_t l5, rt_slice l6, uint64_t l7);
+static RT_HERE struct table_read__reading__PlaceRead table_read__reading__records(rt_slice l1, rt_slice l2, rt_slice l3, uint64_t l4, uint64_t l5, rt_slice l6, rt_slice l7);
+static RT_HERE struct table_read__reading__PlaceRead table_read__reading__value(rt_slice l1, uint8_t l2, uint64_t l3, rt_slice l4, uint64_t l5);
+static RT_HERE struct table_read__reading__PlaceRead table_read__reading__values(rt_slice l1, rt_slice l2, uint64_t l3, uint64_t l4, uint64_t l5, rt_slice l6, uint64_t l7);
 static inline uint8_t table_read__refer__cell_refers(rt_slice l1, uint64_t l2, uint8_t l3, uint64_t l4);
 static inline uint8_t table_read__refer__row_refers(rt_slice l1, uint64_t l2, rt_slice l3, uint64_t l4, rt_slice l5, uint64_t l6, uint64_t l7);
 static inline uint8_t table_read__refer__rows_refer(rt_slice l1, rt_slice l2, rt_slice l3, rt_slice l4, uint64_t l5, uint64_t l6);
@@ -1039,29 +1049,29 @@ static inline uint64_t text__other(rt_slice l1, uint64_t l2, uint64_t l3, uint64
 static inline uint64_t text__push(rt_slice l1, uint64_t l2, uint64_t l3, uint64_t l4);
 static inline uint64_t text__put(rt_slice l1, uint64_t l2, rt_slice l3);
 static inline uint64_t text__value(rt_slice l1, uint64_t l2, uint64_t l3, uint64_t l4);
-static inline uint64_t text_place__place(rt_slice l1);
+static RT_APART uint64_t text_place__place(rt_slice l1);
 static inline uint64_t text_place__stopped(rt_slice l1, rt_slice l2, rt_slice l3);
 static inline uint64_t text_place__stuck(rt_slice l1, rt_slice l2);
 static inline uint64_t text_place__unmarked(rt_slice l1);
-static inline uint64_t text_place__unnamed(rt_slice l1, rt_slice l2, rt_slice l3);
-static inline struct trace_images__Traced trace_images__begun(struct seating__Opened l1, rt_slice l2, rt_slice l3, rt_slice l4, rt_slice l5, uint64_t l6, rt_slice l7);
-static inline struct trace_images__pages__Page trace_images__pages__blank(uint64_t l1);
-static inline struct trace_images__Traced trace_images__pages__ended(struct trace_images__pages__Page l1, uint8_t l2, uint64_t l3, rt_slice l4);
+static RT_APART uint64_t text_place__unnamed(rt_slice l1, rt_slice l2, rt_slice l3);
+static RT_APART struct trace_images__Traced trace_images__begun(struct seating__Opened l1, rt_slice l2, rt_slice l3, rt_slice l4, rt_slice l5, uint64_t l6, rt_slice l7);
+static RT_HERE struct trace_images__pages__Page trace_images__pages__blank(uint64_t l1);
+static RT_HERE struct trace_images__Traced trace_images__pages__ended(struct trace_images__pages__Page l1, uint8_t l2, uint64_t l3, rt_slice l4);
 static inline uint64_t trace_images__pages__least(uint64_t l1, uint64_t l2);
 static inline uint64_t trace_images__pages__minus(uint64_t l1, uint64_t l2);
-static inline struct trace_images__pages__Page trace_images__pages__put(struct trace_images__pages__Page l1, rt_slice l2, rt_slice l3);
-static inline struct trace_images__Traced trace_images__pages__refused(uint8_t l1, uint64_t l2, rt_slice l3);
-static inline struct seating__SeatRead trace_images__seated(uint64_t l1, rt_slice l2, rt_slice l3, rt_slice l4, rt_slice l5, rt_slice l6);
-static inline struct trace_images__telling__Telling trace_images__telling__behind(struct engine__Machine l1, uint64_t l2, uint64_t l3, struct trace_images__pages__Page l4);
-static inline struct trace_images__telling__Telling trace_images__telling__first(struct trace_images__telling__Start l1);
-static inline struct trace_images__telling__Telling trace_images__telling__moved(struct trace_images__telling__Telling l1, rt_slice l2, rt_slice l3, rt_slice l4, rt_slice l5);
-static inline struct trace_images__telling__Telling trace_images__telling__play(rt_slice l1, rt_slice l2, struct trace_images__telling__Start l3, rt_slice l4, rt_slice l5, rt_slice l6, rt_slice l7);
-static inline struct trace_images__telling__Telling trace_images__telling__resting(struct trace_images__telling__Telling l1, uint8_t l2);
-static inline struct trace_images__telling__Telling trace_images__telling__settle(struct trace_images__telling__Telling l1, rt_slice l2, rt_slice l3, rt_slice l4, rt_slice l5);
-static inline struct trace_images__telling__Telling trace_images__telling__told_at(struct trace_images__telling__Telling l1, rt_slice l2);
-static inline struct trace_images__telling__Telling trace_images__telling__turn(struct trace_images__telling__Telling l1, rt_slice l2, rt_slice l3, rt_slice l4, rt_slice l5, rt_slice l6, rt_slice l7);
-static inline struct trace_images__Traced trace_images__trace(rt_slice l1, rt_slice l2, rt_slice l3, uint64_t l4, rt_slice l5);
-static inline struct trace_lines__Told trace_lines__advance(struct engine__Machine l1, uint64_t l2, rt_slice l3, rt_slice l4, rt_slice l5, rt_slice l6);
+static RT_HERE struct trace_images__pages__Page trace_images__pages__put(struct trace_images__pages__Page l1, rt_slice l2, rt_slice l3);
+static RT_HERE struct trace_images__Traced trace_images__pages__refused(uint8_t l1, uint64_t l2, rt_slice l3);
+static RT_APART struct seating__SeatRead trace_images__seated(uint64_t l1, rt_slice l2, rt_slice l3, rt_slice l4, rt_slice l5, rt_slice l6);
+static RT_HERE struct trace_images__telling__Telling trace_images__telling__behind(struct engine__Machine l1, uint64_t l2, uint64_t l3, struct trace_images__pages__Page l4);
+static RT_HERE struct trace_images__telling__Telling trace_images__telling__first(struct trace_images__telling__Start l1);
+static RT_HERE struct trace_images__telling__Telling trace_images__telling__moved(struct trace_images__telling__Telling l1, rt_slice l2, rt_slice l3, rt_slice l4, rt_slice l5);
+static RT_APART struct trace_images__telling__Telling trace_images__telling__play(rt_slice l1, rt_slice l2, struct trace_images__telling__Start l3, rt_slice l4, rt_slice l5, rt_slice l6, rt_slice l7);
+static RT_HERE struct trace_images__telling__Telling trace_images__telling__resting(struct trace_images__telling__Telling l1, uint8_t l2);
+static RT_HERE struct trace_images__telling__Telling trace_images__telling__settle(struct trace_images__telling__Telling l1, rt_slice l2, rt_slice l3, rt_slice l4, rt_slice l5);
+static RT_HERE struct trace_images__telling__Telling trace_images__telling__told_at(struct trace_images__telling__Telling l1, rt_slice l2);
+static RT_HERE struct trace_images__telling__Telling trace_images__telling__turn(struct trace_images__telling__Telling l1, rt_slice l2, rt_slice l3, rt_slice l4, rt_slice l5, rt_slice l6, rt_slice l7);
+static RT_APART struct trace_images__Traced trace_images__trace(rt_slice l1, rt_slice l2, rt_slice l3, uint64_t l4, rt_slice l5);
+static RT_HERE struct trace_lines__Told trace_lines__advance(struct engine__Machine l1, uint64_t l2, rt_slice l3, rt_slice l4, rt_slice l5, rt_slice l6);
 static inline uint64_t trace_lines__back(rt_slice l1, uint64_t l2, uint64_t l3, struct trace_lines__writes__Write l4, struct layout__Numbers l5, rt_slice l6, rt_slice l7);
 static inline uint64_t trace_lines__choice__picked_of(rt_slice l1, uint64_t l2, uint64_t l3, uint64_t l4, uint8_t l5);
 static inline uint64_t trace_lines__columns(rt_slice l1, uint64_t l2, uint64_t l3, uint64_t l4, uint64_t l5);
@@ -1075,11 +1085,11 @@ static inline uint64_t trace_lines__parts__tag(rt_slice l1, uint64_t l2);
 static inline uint64_t trace_lines__parts__worth(rt_slice l1, uint64_t l2, uint64_t l3);
 static inline uint64_t trace_lines__position(rt_slice l1, rt_slice l2, uint64_t l3, uint64_t l4);
 static inline uint64_t trace_lines__step_at(uint64_t l1, uint64_t l2);
-static inline struct trace_lines__Told trace_lines__turn(struct trace_lines__Coming l1, rt_slice l2, rt_slice l3, rt_slice l4, rt_slice l5, rt_slice l6, rt_slice l7);
+static RT_HERE struct trace_lines__Told trace_lines__turn(struct trace_lines__Coming l1, rt_slice l2, rt_slice l3, rt_slice l4, rt_slice l5, rt_slice l6, rt_slice l7);
 static inline uint64_t trace_lines__wide(uint16_t l1);
-static inline struct trace_lines__writes__Write trace_lines__writes__nothing(void);
+static RT_HERE struct trace_lines__writes__Write trace_lines__writes__nothing(void);
 static inline uint64_t trace_lines__writes__place(rt_slice l1, uint64_t l2, uint64_t l3, uint64_t l4);
-static inline struct trace_lines__writes__Write trace_lines__writes__target(rt_slice l1, rt_slice l2, rt_slice l3, rt_slice l4, uint64_t l5);
+static RT_HERE struct trace_lines__writes__Write trace_lines__writes__target(rt_slice l1, rt_slice l2, rt_slice l3, rt_slice l4, uint64_t l5);
 static inline uint64_t trace_lines__writes__written(rt_slice l1, uint64_t l2, struct trace_lines__writes__Write l3, rt_slice l4);
 static inline uint32_t types__default_word(uint8_t l1);
 static inline uint8_t types__is_reference(uint8_t l1);
@@ -1089,36 +1099,36 @@ static inline uint64_t uses__declared__all(rt_slice l1, rt_slice l2);
 static inline uint8_t uses__declared__declares(uint8_t l1);
 static inline uint64_t uses__declared__gather(rt_slice l1, rt_slice l2, uint8_t l3, uint8_t l4, rt_slice l5);
 static inline void uses__declared__rows(rt_slice l1, rt_slice l2, uint8_t l3, rt_slice l4);
-static inline struct uses__Seen uses__looked__called(rt_slice l1, rt_slice l2, uint64_t l3, uint8_t l4, uint64_t l5);
-static inline struct uses__Seen uses__looked__first(rt_slice l1, rt_slice l2, rt_slice l3, uint64_t l4, struct uses__Scope l5);
-static inline struct uses__Seen uses__looked__later(rt_slice l1, rt_slice l2, uint64_t l3, uint64_t l4);
-static inline struct uses__Seen uses__looked__listed(rt_slice l1, rt_slice l2, uint64_t l3, uint64_t l4, uint64_t l5, uint64_t l6);
-static inline struct uses__Seen uses__looked__local(rt_slice l1, rt_slice l2, uint64_t l3, uint64_t l4);
+static RT_HERE struct uses__Seen uses__looked__called(rt_slice l1, rt_slice l2, uint64_t l3, uint8_t l4, uint64_t l5);
+static RT_HERE struct uses__Seen uses__looked__first(rt_slice l1, rt_slice l2, rt_slice l3, uint64_t l4, struct uses__Scope l5);
+static RT_HERE struct uses__Seen uses__looked__later(rt_slice l1, rt_slice l2, uint64_t l3, uint64_t l4);
+static RT_HERE struct uses__Seen uses__looked__listed(rt_slice l1, rt_slice l2, uint64_t l3, uint64_t l4, uint64_t l5, uint64_t l6);
+static RT_HERE struct uses__Seen uses__looked__local(rt_slice l1, rt_slice l2, uint64_t l3, uint64_t l4);
 static inline uint8_t uses__looked__no_parameter(rt_slice l1, rt_slice l2, uint64_t l3, uint64_t l4);
-static inline struct uses__Seen uses__looked__parameter(rt_slice l1, rt_slice l2, uint64_t l3, uint64_t l4);
+static RT_HERE struct uses__Seen uses__looked__parameter(rt_slice l1, rt_slice l2, uint64_t l3, uint64_t l4);
 static inline uint8_t uses__looked__unused(rt_slice l1, rt_slice l2, rt_slice l3, uint64_t l4, uint64_t l5, uint64_t l6);
-static inline struct uses__Numbered uses__numbers(rt_slice l1, rt_slice l2, rt_slice l3, rt_slice l4, rt_slice l5);
-static inline struct uses__Passed uses__parts__close(rt_slice l1, uint8_t l2, struct uses__Scope l3);
-static inline struct uses__Passed uses__parts__close_if(rt_slice l1, struct uses__Scope l2);
-static inline struct uses__Scope uses__parts__dued(struct uses__Scope l1, uint64_t l2);
-static inline struct uses__Passed uses__parts__go_on(rt_slice l1, struct uses__Scope l2);
-static inline struct uses__Passed uses__parts__kind_role(rt_slice l1, uint64_t l2, uint8_t l3, struct uses__Scope l4);
-static inline struct uses__Scope uses__parts__lived(struct uses__Scope l1, uint64_t l2, uint64_t l3, uint64_t l4);
-static inline struct uses__Passed uses__parts__of_type(struct resolve__Word l1, struct uses__Scope l2);
-static inline struct uses__Passed uses__parts__open_if(rt_slice l1, struct uses__Scope l2);
-static inline struct uses__Passed uses__parts__part_role(rt_slice l1, uint8_t l2, struct uses__Scope l3);
+static RT_HERE struct uses__Numbered uses__numbers(rt_slice l1, rt_slice l2, rt_slice l3, rt_slice l4, rt_slice l5);
+static RT_HERE struct uses__Passed uses__parts__close(rt_slice l1, uint8_t l2, struct uses__Scope l3);
+static RT_HERE struct uses__Passed uses__parts__close_if(rt_slice l1, struct uses__Scope l2);
+static RT_HERE struct uses__Scope uses__parts__dued(struct uses__Scope l1, uint64_t l2);
+static RT_HERE struct uses__Passed uses__parts__go_on(rt_slice l1, struct uses__Scope l2);
+static RT_HERE struct uses__Passed uses__parts__kind_role(rt_slice l1, uint64_t l2, uint8_t l3, struct uses__Scope l4);
+static RT_HERE struct uses__Scope uses__parts__lived(struct uses__Scope l1, uint64_t l2, uint64_t l3, uint64_t l4);
+static RT_HERE struct uses__Passed uses__parts__of_type(struct resolve__Word l1, struct uses__Scope l2);
+static RT_HERE struct uses__Passed uses__parts__open_if(rt_slice l1, struct uses__Scope l2);
+static RT_HERE struct uses__Passed uses__parts__part_role(rt_slice l1, uint8_t l2, struct uses__Scope l3);
 static inline uint8_t uses__pass__quiet(uint8_t l1);
-static inline struct uses__Passed uses__pass__use_at(rt_slice l1, rt_slice l2, rt_slice l3, rt_slice l4, uint64_t l5, uint8_t l6, struct uses__Scope l7);
-static inline struct uses__Numbered uses__pass__uses(rt_slice l1, rt_slice l2, rt_slice l3, rt_slice l4, rt_slice l5, rt_slice l6);
-static inline struct uses__Passed uses__passing__begin(rt_slice l1, struct uses__Scope l2);
-static inline struct uses__Passed uses__passing__declare(rt_slice l1, rt_slice l2, rt_slice l3, uint64_t l4, struct uses__Scope l5);
-static inline struct uses__Passed uses__passing__declared_name(rt_slice l1, rt_slice l2, rt_slice l3, uint64_t l4, uint8_t l5, struct uses__Scope l6);
-static inline struct uses__Passed uses__passing__left(struct uses__Scope l1, struct uses__Seen l2);
-static inline struct uses__Passed uses__passing__made(rt_slice l1, rt_slice l2, rt_slice l3, uint64_t l4, struct uses__Scope l5);
+static RT_HERE struct uses__Passed uses__pass__use_at(rt_slice l1, rt_slice l2, rt_slice l3, rt_slice l4, uint64_t l5, uint8_t l6, struct uses__Scope l7);
+static RT_HERE struct uses__Numbered uses__pass__uses(rt_slice l1, rt_slice l2, rt_slice l3, rt_slice l4, rt_slice l5, rt_slice l6);
+static RT_HERE struct uses__Passed uses__passing__begin(rt_slice l1, struct uses__Scope l2);
+static RT_HERE struct uses__Passed uses__passing__declare(rt_slice l1, rt_slice l2, rt_slice l3, uint64_t l4, struct uses__Scope l5);
+static RT_HERE struct uses__Passed uses__passing__declared_name(rt_slice l1, rt_slice l2, rt_slice l3, uint64_t l4, uint8_t l5, struct uses__Scope l6);
+static RT_HERE struct uses__Passed uses__passing__left(struct uses__Scope l1, struct uses__Seen l2);
+static RT_HERE struct uses__Passed uses__passing__made(rt_slice l1, rt_slice l2, rt_slice l3, uint64_t l4, struct uses__Scope l5);
 static inline void uses__passing__store(rt_slice l1, uint64_t l2, uint64_t l3, uint64_t l4, uint64_t l5);
 static inline uint8_t uses__passing__type_number(uint8_t l1);
-static inline struct uses__Passed uses__passing__type_role(rt_slice l1, rt_slice l2, uint64_t l3, uint8_t l4, struct uses__Scope l5);
-static inline struct uses__Passed uses__passing__used_name(rt_slice l1, rt_slice l2, rt_slice l3, rt_slice l4, uint64_t l5, uint8_t l6, struct uses__Scope l7);
+static RT_HERE struct uses__Passed uses__passing__type_role(rt_slice l1, rt_slice l2, uint64_t l3, uint8_t l4, struct uses__Scope l5);
+static RT_HERE struct uses__Passed uses__passing__used_name(rt_slice l1, rt_slice l2, rt_slice l3, rt_slice l4, uint64_t l5, uint8_t l6, struct uses__Scope l7);
 static inline uint8_t uses__tabling__few_steps(rt_slice l1, rt_slice l2, uint64_t l3);
 static inline uint8_t uses__tabling__fill(rt_slice l1, rt_slice l2, rt_slice l3);
 static inline uint8_t uses__tabling__filled(rt_slice l1, rt_slice l2, rt_slice l3, rt_slice l4);
@@ -1532,7 +1542,7 @@ static inline struct operators__Answered arithmetic__truth(uint8_t l1)
     return l0;
 }
 
-static inline struct audala__Answer audala__audala_check(rt_slice l1, rt_slice l2)
+static RT_HERE struct audala__Answer audala__audala_check(rt_slice l1, rt_slice l2)
 {
     struct audala__Answer l0;
     struct checker__Verdict l3;
@@ -1560,7 +1570,7 @@ static inline struct audala__Answer audala__audala_check(rt_slice l1, rt_slice l
     return l0;
 }
 
-static inline struct audala__Report audala__audala_run(rt_slice l1, rt_slice l2, rt_slice l3, rt_slice l4, rt_slice l5)
+static RT_HERE struct audala__Report audala__audala_run(rt_slice l1, rt_slice l2, rt_slice l3, rt_slice l4, rt_slice l5)
 {
     struct audala__Report l0;
     struct run_images__Report l6;
@@ -1591,7 +1601,7 @@ static inline struct audala__Report audala__audala_run(rt_slice l1, rt_slice l2,
     return l0;
 }
 
-static inline struct audala__Part audala__audala_step(rt_slice l1, rt_slice l2, uint8_t l3, uint8_t l4)
+static RT_HERE struct audala__Part audala__audala_step(rt_slice l1, rt_slice l2, uint8_t l3, uint8_t l4)
 {
     struct audala__Part l0;
     struct step_part__Spot l5;
@@ -1608,7 +1618,7 @@ static inline struct audala__Part audala__audala_step(rt_slice l1, rt_slice l2, 
     return l0;
 }
 
-static inline struct audala__images__Copied audala__images__audala_read_image(rt_slice l1, uint64_t l2, rt_slice l3)
+static RT_HERE struct audala__images__Copied audala__images__audala_read_image(rt_slice l1, uint64_t l2, rt_slice l3)
 {
     struct audala__images__Copied l0;
     struct blocks__Read l4;
@@ -1622,7 +1632,7 @@ static inline struct audala__images__Copied audala__images__audala_read_image(rt
     return l0;
 }
 
-static inline struct audala__images__Copied audala__images__audala_write_image(rt_slice l1, uint64_t l2, rt_slice l3)
+static RT_HERE struct audala__images__Copied audala__images__audala_write_image(rt_slice l1, uint64_t l2, rt_slice l3)
 {
     struct audala__images__Copied l0;
     struct blocks__Written l4;
@@ -1636,7 +1646,7 @@ static inline struct audala__images__Copied audala__images__audala_write_image(r
     return l0;
 }
 
-static inline struct audala__images__Copied audala__images__of_read(struct blocks__Read l1)
+static RT_HERE struct audala__images__Copied audala__images__of_read(struct blocks__Read l1)
 {
     struct audala__images__Copied l0;
     uint64_t l2;
@@ -1667,11 +1677,12 @@ static inline struct audala__images__Copied audala__images__of_read(struct block
             break;
         }
     }
-    l0 = l5;
+    l0.f0 = l5.f0;
+    l0.f1 = l5.f1;
     return l0;
 }
 
-static inline struct audala__images__Copied audala__images__of_written(struct blocks__Written l1)
+static RT_HERE struct audala__images__Copied audala__images__of_written(struct blocks__Written l1)
 {
     struct audala__images__Copied l0;
     uint64_t l2;
@@ -1698,11 +1709,12 @@ static inline struct audala__images__Copied audala__images__of_written(struct bl
             break;
         }
     }
-    l0 = l3;
+    l0.f0 = l3.f0;
+    l0.f1 = l3.f1;
     return l0;
 }
 
-static inline struct audala__images__Copied audala__listings__audala_listing(rt_slice l1, rt_slice l2)
+static RT_HERE struct audala__images__Copied audala__listings__audala_listing(rt_slice l1, rt_slice l2)
 {
     struct audala__images__Copied l0;
     uint64_t l3;
@@ -1737,7 +1749,7 @@ static inline struct audala__places__Stopped audala__places__audala_place(rt_sli
     return l0;
 }
 
-static inline struct audala__tallies__Counts audala__tallies__audala_count(rt_slice l1, rt_slice l2, uint32_t l3, uint32_t l4, uint32_t l5, rt_slice l6)
+static RT_HERE struct audala__tallies__Counts audala__tallies__audala_count(rt_slice l1, rt_slice l2, uint32_t l3, uint32_t l4, uint32_t l5, rt_slice l6)
 {
     struct audala__tallies__Counts l0;
     struct count_images__Counts l7;
@@ -1756,7 +1768,7 @@ static inline struct audala__tallies__Counts audala__tallies__audala_count(rt_sl
     return l0;
 }
 
-static inline struct audala__images__Copied audala__texts__audala_text(rt_slice l1, rt_slice l2)
+static RT_HERE struct audala__images__Copied audala__texts__audala_text(rt_slice l1, rt_slice l2)
 {
     struct audala__images__Copied l0;
     struct read_text__Answer l3;
@@ -1773,7 +1785,7 @@ static inline struct audala__images__Copied audala__texts__audala_text(rt_slice 
     return l0;
 }
 
-static inline struct audala__traces__Traced audala__traces__audala_trace(rt_slice l1, rt_slice l2, rt_slice l3, uint64_t l4, rt_slice l5)
+static RT_HERE struct audala__traces__Traced audala__traces__audala_trace(rt_slice l1, rt_slice l2, rt_slice l3, uint64_t l4, rt_slice l5)
 {
     struct audala__traces__Traced l0;
     struct trace_images__Traced l6;
@@ -1848,7 +1860,7 @@ static inline uint8_t block__laid_out(rt_slice l1, uint64_t l2, uint8_t l3)
     return l0;
 }
 
-static inline rt_slice block__payload(rt_slice l1, uint64_t l2)
+static RT_HERE rt_slice block__payload(rt_slice l1, uint64_t l2)
 {
     rt_slice l0;
     uint64_t l3;
@@ -1946,8 +1958,8 @@ static inline struct block__Both block__sums(rt_slice l1)
         l6 = l1.p + (size_t)l4;
         l7 = (*(uint8_t *)l6);
         l8 = (uint16_t)l7;
-        l2 = std__num__wrapping_add_u16(l2, l8);
-        l3 = std__num__wrapping_add_u16(l3, l2);
+        l2 = core__num__wrapping_add_u16(l2, l8);
+        l3 = core__num__wrapping_add_u16(l3, l2);
         l4 = (uint64_t)((uint64_t)l4 + (uint64_t)UINT64_C(1));
     }
 end1:;
@@ -2145,7 +2157,7 @@ static inline struct block__Found blocks__image_fault(rt_slice l1, uint64_t l2)
     return l0;
 }
 
-static inline struct blocks__Opened blocks__open_image(rt_slice l1, uint64_t l2, rt_slice l3)
+static RT_HERE struct blocks__Opened blocks__open_image(rt_slice l1, uint64_t l2, rt_slice l3)
 {
     struct blocks__Opened l0;
     uint64_t l4;
@@ -2205,7 +2217,7 @@ static inline uint8_t blocks__program_number(struct block__Fault l1)
     return l0;
 }
 
-static inline struct blocks__Read blocks__read_image(rt_slice l1, uint64_t l2, rt_slice l3)
+static RT_HERE struct blocks__Read blocks__read_image(rt_slice l1, uint64_t l2, rt_slice l3)
 {
     struct blocks__Read l0;
     struct block__Fault l4;
@@ -2415,7 +2427,7 @@ static inline uint8_t blocks__table_number(struct block__Fault l1)
     return l0;
 }
 
-static inline struct blocks__Written blocks__write_image(rt_slice l1, uint64_t l2, rt_slice l3)
+static RT_HERE struct blocks__Written blocks__write_image(rt_slice l1, uint64_t l2, rt_slice l3)
 {
     struct blocks__Written l0;
     uint64_t l4;
@@ -2451,7 +2463,7 @@ static inline struct blocks__Written blocks__write_image(rt_slice l1, uint64_t l
     return l0;
 }
 
-static inline rt_slice blocks__writing__piece(rt_slice l1, uint64_t l2)
+static RT_HERE rt_slice blocks__writing__piece(rt_slice l1, uint64_t l2)
 {
     rt_slice l0;
     uint64_t l3;
@@ -2540,7 +2552,7 @@ static inline struct checker__Verdict checker__accepted(struct load__Loaded l1)
     return l0;
 }
 
-static inline struct checker__Verdict checker__check(rt_slice l1, rt_slice l2)
+static RT_APART struct checker__Verdict checker__check(rt_slice l1, rt_slice l2)
 {
     struct checker__Verdict l0;
     struct rt_array_uint8_32256 l3;
@@ -2587,7 +2599,13 @@ static inline struct checker__Verdict checker__check(rt_slice l1, rt_slice l2)
     l7 = load__program(l1, l12, l14, l16, l18);
     switch (l7.tag) {
         case UINT8_C(0): {
-            l8 = l7.s0;
+            l8.f0 = l7.s0.f0;
+            l8.f1 = l7.s0.f1;
+            l8.f2 = l7.s0.f2;
+            l8.f3 = l7.s0.f3;
+            l8.f4 = l7.s0.f4;
+            l8.f5 = l7.s0.f5;
+            l8.f6 = l7.s0.f6;
             break;
         }
         case UINT8_C(1): default: {
@@ -2778,11 +2796,12 @@ static inline struct emit__Put compile__items__items(rt_slice l1, uint64_t l2, u
         l6 = (uint8_t)((uint32_t)l6 - (uint32_t)UINT8_C(1));
     }
 end1:;
-    l0 = l7;
+    l0.f0 = l7.f0;
+    l0.f1 = l7.f1;
     return l0;
 }
 
-static inline struct emit__Put compile__items__schedule(rt_slice l1, uint64_t l2, rt_slice l3)
+static RT_HERE struct emit__Put compile__items__schedule(rt_slice l1, uint64_t l2, rt_slice l3)
 {
     struct emit__Put l0;
     struct emit__Put l4;
@@ -2948,7 +2967,7 @@ static inline void compile__store(rt_slice l1, uint64_t l2, uint64_t l3)
     return;
 }
 
-static inline struct composing__Pen composing__bytes__behind(rt_slice l1, rt_slice l2, struct composing__Pen l3, uint8_t l4, uint32_t l5)
+static RT_HERE struct composing__Pen composing__bytes__behind(rt_slice l1, rt_slice l2, struct composing__Pen l3, uint8_t l4, uint32_t l5)
 {
     struct composing__Pen l0;
     struct composing__Pen l6;
@@ -3017,15 +3036,23 @@ static inline struct composing__Pen composing__bytes__behind(rt_slice l1, rt_sli
             break;
         }
         default: {
-            l7 = l3;
+            l7.f0 = l3.f0;
+            l7.f1 = l3.f1;
+            l7.f2 = l3.f2;
+            l7.f3 = l3.f3;
+            l7.f4 = l3.f4;
             break;
         }
     }
-    l0 = l7;
+    l0.f0 = l7.f0;
+    l0.f1 = l7.f1;
+    l0.f2 = l7.f2;
+    l0.f3 = l7.f3;
+    l0.f4 = l7.f4;
     return l0;
 }
 
-static inline struct composing__Pen composing__bytes__formed(rt_slice l1, struct composing__Pen l2, uint8_t l3)
+static RT_HERE struct composing__Pen composing__bytes__formed(rt_slice l1, struct composing__Pen l2, uint8_t l3)
 {
     struct composing__Pen l0;
     uint8_t l4;
@@ -3033,7 +3060,11 @@ static inline struct composing__Pen composing__bytes__formed(rt_slice l1, struct
     rt_slice l6;
     l4 = (uint8_t)(l3 == UINT8_C(0));
     if (l4) {
-        l0 = l2;
+        l0.f0 = l2.f0;
+        l0.f1 = l2.f1;
+        l0.f2 = l2.f2;
+        l0.f3 = l2.f3;
+        l0.f4 = l2.f4;
         return l0;
     }
     l5 = (uint8_t *)&(*(uint8_t *)l1.p);
@@ -3043,7 +3074,7 @@ static inline struct composing__Pen composing__bytes__formed(rt_slice l1, struct
     return l0;
 }
 
-static inline struct composing__Pen composing__bytes__lengthened(struct composing__Pen l1)
+static RT_HERE struct composing__Pen composing__bytes__lengthened(struct composing__Pen l1)
 {
     struct composing__Pen l0;
     uint64_t l2;
@@ -3065,7 +3096,7 @@ static inline uint8_t composing__bytes__low(uint32_t l1)
     return l0;
 }
 
-static inline struct composing__Pen composing__bytes__numbered(rt_slice l1, rt_slice l2, struct composing__Pen l3)
+static RT_HERE struct composing__Pen composing__bytes__numbered(rt_slice l1, rt_slice l2, struct composing__Pen l3)
 {
     struct composing__Pen l0;
     uint64_t l4;
@@ -3095,7 +3126,7 @@ static inline struct composing__Pen composing__bytes__numbered(rt_slice l1, rt_s
     return l0;
 }
 
-static inline struct composing__Pen composing__bytes__pathed(rt_slice l1, struct composing__Pen l2)
+static RT_HERE struct composing__Pen composing__bytes__pathed(rt_slice l1, struct composing__Pen l2)
 {
     struct composing__Pen l0;
     uint64_t l3;
@@ -3125,7 +3156,7 @@ static inline struct composing__Pen composing__bytes__pathed(rt_slice l1, struct
     return l0;
 }
 
-static inline struct composing__Pen composing__bytes__spoilt(struct composing__Pen l1)
+static RT_HERE struct composing__Pen composing__bytes__spoilt(struct composing__Pen l1)
 {
     struct composing__Pen l0;
     l0.f0 = l1.f0;
@@ -3136,7 +3167,7 @@ static inline struct composing__Pen composing__bytes__spoilt(struct composing__P
     return l0;
 }
 
-static inline struct composing__Pen composing__bytes__worded(rt_slice l1, struct composing__Pen l2, uint32_t l3)
+static RT_HERE struct composing__Pen composing__bytes__worded(rt_slice l1, struct composing__Pen l2, uint32_t l3)
 {
     struct composing__Pen l0;
     uint32_t l4;
@@ -3180,7 +3211,7 @@ static inline struct composing__Pen composing__bytes__worded(rt_slice l1, struct
     return l0;
 }
 
-static inline struct composing__Pen composing__bytes__wrote(rt_slice l1, struct composing__Pen l2, uint8_t l3)
+static RT_HERE struct composing__Pen composing__bytes__wrote(rt_slice l1, struct composing__Pen l2, uint8_t l3)
 {
     struct composing__Pen l0;
     uint64_t l4;
@@ -3329,7 +3360,7 @@ static inline uint32_t composing__number(struct resolve__Word l1)
     return l0;
 }
 
-static inline struct composing__Pen composing__pouring__begun(rt_slice l1, rt_slice l2, struct composing__Pen l3)
+static RT_HERE struct composing__Pen composing__pouring__begun(rt_slice l1, rt_slice l2, struct composing__Pen l3)
 {
     struct composing__Pen l0;
     struct composing__Pen l4;
@@ -3351,7 +3382,7 @@ static inline struct composing__Pen composing__pouring__begun(rt_slice l1, rt_sl
     return l0;
 }
 
-static inline struct composing__Pen composing__pouring__first(rt_slice l1, rt_slice l2, struct composing__Pen l3, uint8_t l4, uint8_t l5)
+static RT_HERE struct composing__Pen composing__pouring__first(rt_slice l1, rt_slice l2, struct composing__Pen l3, uint8_t l4, uint8_t l5)
 {
     struct composing__Pen l0;
     struct composing__Pen l6;
@@ -3377,15 +3408,23 @@ static inline struct composing__Pen composing__pouring__first(rt_slice l1, rt_sl
             break;
         }
         default: {
-            l6 = l3;
+            l6.f0 = l3.f0;
+            l6.f1 = l3.f1;
+            l6.f2 = l3.f2;
+            l6.f3 = l3.f3;
+            l6.f4 = l3.f4;
             break;
         }
     }
-    l0 = l6;
+    l0.f0 = l6.f0;
+    l0.f1 = l6.f1;
+    l0.f2 = l6.f2;
+    l0.f3 = l6.f3;
+    l0.f4 = l6.f4;
     return l0;
 }
 
-static inline struct composing__Pen composing__pouring__poured(rt_slice l1, rt_slice l2, struct composing__Pen l3, uint8_t l4)
+static RT_HERE struct composing__Pen composing__pouring__poured(rt_slice l1, rt_slice l2, struct composing__Pen l3, uint8_t l4)
 {
     struct composing__Pen l0;
     uint64_t l5;
@@ -3470,7 +3509,7 @@ static inline uint8_t composing__pouring__tightness(uint8_t l1)
     return l0;
 }
 
-static inline struct composing__Pen composing__roles__put(rt_slice l1, rt_slice l2, rt_slice l3, rt_slice l4, struct composing__Pen l5, uint8_t l6, uint32_t l7)
+static RT_HERE struct composing__Pen composing__roles__put(rt_slice l1, rt_slice l2, rt_slice l3, rt_slice l4, struct composing__Pen l5, uint8_t l6, uint32_t l7)
 {
     struct composing__Pen l0;
     uint64_t l8;
@@ -3494,7 +3533,11 @@ static inline struct composing__Pen composing__roles__put(rt_slice l1, rt_slice 
     rt_slice l26;
     l12 = (uint8_t)(UINT8_C(81) <= l6);
     if (l12) {
-        l0 = l5;
+        l0.f0 = l5.f0;
+        l0.f1 = l5.f1;
+        l0.f2 = l5.f2;
+        l0.f3 = l5.f3;
+        l0.f4 = l5.f4;
         return l0;
     }
     l8 = (uint64_t)l6;
@@ -3542,7 +3585,7 @@ static inline uint8_t composing__roomy(struct composing__Pen l1)
     return l0;
 }
 
-static inline struct composing__Placed composing__stream(rt_slice l1, rt_slice l2, rt_slice l3, rt_slice l4, rt_slice l5, rt_slice l6, rt_slice l7)
+static RT_HERE struct composing__Placed composing__stream(rt_slice l1, rt_slice l2, rt_slice l3, rt_slice l4, rt_slice l5, rt_slice l6, rt_slice l7)
 {
     struct composing__Placed l0;
     struct composing__Pen l8;
@@ -3623,7 +3666,7 @@ static inline uint8_t composing__table__mark(rt_slice l1, uint64_t l2, uint64_t 
     return l0;
 }
 
-static inline struct composing__Pen composing__waiting__counted(rt_slice l1, rt_slice l2, struct composing__Pen l3)
+static RT_HERE struct composing__Pen composing__waiting__counted(rt_slice l1, rt_slice l2, struct composing__Pen l3)
 {
     struct composing__Pen l0;
     uint64_t l4;
@@ -3651,7 +3694,7 @@ static inline struct composing__Pen composing__waiting__counted(rt_slice l1, rt_
     return l0;
 }
 
-static inline struct composing__Pen composing__waiting__more(rt_slice l1, struct composing__Pen l2, uint8_t l3)
+static RT_HERE struct composing__Pen composing__waiting__more(rt_slice l1, struct composing__Pen l2, uint8_t l3)
 {
     struct composing__Pen l0;
     uint64_t l4;
@@ -3679,11 +3722,15 @@ static inline struct composing__Pen composing__waiting__more(rt_slice l1, struct
     l9 = (uint8_t)((uint32_t)l6 + (uint32_t)UINT8_C(1));
     l10 = l1.p + (size_t)l5;
     (*(uint8_t *)l10) = l9;
-    l0 = l2;
+    l0.f0 = l2.f0;
+    l0.f1 = l2.f1;
+    l0.f2 = l2.f2;
+    l0.f3 = l2.f3;
+    l0.f4 = l2.f4;
     return l0;
 }
 
-static inline struct composing__Pen composing__waiting__opened(rt_slice l1, struct composing__Pen l2, uint8_t l3)
+static RT_HERE struct composing__Pen composing__waiting__opened(rt_slice l1, struct composing__Pen l2, uint8_t l3)
 {
     struct composing__Pen l0;
     uint64_t l4;
@@ -3701,7 +3748,7 @@ static inline struct composing__Pen composing__waiting__opened(rt_slice l1, stru
     return l0;
 }
 
-static inline struct composing__Pen composing__waiting__popped(struct composing__Pen l1)
+static RT_HERE struct composing__Pen composing__waiting__popped(struct composing__Pen l1)
 {
     struct composing__Pen l0;
     uint64_t l2;
@@ -3714,7 +3761,7 @@ static inline struct composing__Pen composing__waiting__popped(struct composing_
     return l0;
 }
 
-static inline struct composing__Pen composing__waiting__stacked(rt_slice l1, rt_slice l2, struct composing__Pen l3, uint8_t l4, uint8_t l5)
+static RT_HERE struct composing__Pen composing__waiting__stacked(rt_slice l1, rt_slice l2, struct composing__Pen l3, uint8_t l4, uint8_t l5)
 {
     struct composing__Pen l0;
     struct composing__Pen l6;
@@ -3791,25 +3838,35 @@ static inline struct composing__Pen composing__waiting__stacked(rt_slice l1, rt_
             break;
         }
         default: {
-            l7 = l3;
+            l7.f0 = l3.f0;
+            l7.f1 = l3.f1;
+            l7.f2 = l3.f2;
+            l7.f3 = l3.f3;
+            l7.f4 = l3.f4;
             break;
         }
     }
-    l0 = l7;
+    l0.f0 = l7.f0;
+    l0.f1 = l7.f1;
+    l0.f2 = l7.f2;
+    l0.f3 = l7.f3;
+    l0.f4 = l7.f4;
     return l0;
 }
 
-static const struct rt_array_uint8_324 composing__write__l6 = { { UINT8_C(48), UINT8_C(48), UINT8_C(49), UINT8_C(48), UINT8_C(48), UINT8_C(48), UINT8_C(48), UINT8_C(48), UINT8_C(48), UINT8_C(48), UINT8_C(48), UINT8_C(48), UINT8_C(48), UINT8_C(48), UINT8_C(48), UINT8_C(48), UINT8_C(48), UINT8_C(48), UINT8_C(48), UINT8_C(48), UINT8_C(49), UINT8_C(48), UINT8_C(48), UINT8_C(50), UINT8_C(50), UINT8_C(50), UINT8_C(50), UINT8_C(50), UINT8_C(50), UINT8_C(50), UINT8_C(50), UINT8_C(50), UINT8_C(50), UINT8_C(50), UINT8_C(50), UINT8_C(50), UINT8_C(48), UINT8_C(48), UINT8_C(48), UINT8_C(48), UINT8_C(48), UINT8_C(48), UINT8_C(48), UINT8_C(48), UINT8_C(48), UINT8_C(48), UINT8_C(48), UINT8_C(49), UINT8_C(48), UINT8_C(48), UINT8_C(48), UINT8_C(48), UINT8_C(48), UINT8_C(48), UINT8_C(48), UINT8_C(48), UINT8_C(48), UINT8_C(48), UINT8_C(48), UINT8_C(48), UINT8_C(48), UINT8_C(48), UINT8_C(48), UINT8_C(49), UINT8_C(48), UINT8_C(49), UINT8_C(48), UINT8_C(48), UINT8_C(48), UINT8_C(48), UINT8_C(48), UINT8_C(48), UINT8_C(48), UINT8_C(48), UINT8_C(48), UINT8_C(48), UINT8_C(48), UINT8_C(48), UINT8_C(48), UINT8_C(49), UINT8_C(48), UINT8_C(48), UINT8_C(48), UINT8_C(48), UINT8_C(48), UINT8_C(48), UINT8_C(48), UINT8_C(48), UINT8_C(48), UINT8_C(48), UINT8_C(48), UINT8_C(48), UINT8_C(53), UINT8_C(54), UINT8_C(48), UINT8_C(48), UINT8_C(48), UINT8_C(48), UINT8_C(48), UINT8_C(48), UINT8_C(48), UINT8_C(48), UINT8_C(48), UINT8_C(48), UINT8_C(48), UINT8_C(48), UINT8_C(48), UINT8_C(48), UINT8_C(48), UINT8_C(48), UINT8_C(48), UINT8_C(48), UINT8_C(48), UINT8_C(48), UINT8_C(48), UINT8_C(48), UINT8_C(48), UINT8_C(48), UINT8_C(52), UINT8_C(52), UINT8_C(48), UINT8_C(48), UINT8_C(49), UINT8_C(49), UINT8_C(51), UINT8_C(51), UINT8_C(50), UINT8_C(49), UINT8_C(49), UINT8_C(49), UINT8_C(49), UINT8_C(49), UINT8_C(48), UINT8_C(48), UINT8_C(48), UINT8_C(48), UINT8_C(49), UINT8_C(49), UINT8_C(49), UINT8_C(49), UINT8_C(49), UINT8_C(49), UINT8_C(49), UINT8_C(49), UINT8_C(48), UINT8_C(48), UINT8_C(48), UINT8_C(48), UINT8_C(48), UINT8_C(48), UINT8_C(48), UINT8_C(48), UINT8_C(48), UINT8_C(48), UINT8_C(48), UINT8_C(48), UINT8_C(48), UINT8_C(48), UINT8_C(48), UINT8_C(48), UINT8_C(48), UINT8_C(48), UINT8_C(48), UINT8_C(48), UINT8_C(49), UINT8_C(48), UINT8_C(70), UINT8_C(71), UINT8_C(51), UINT8_C(48), UINT8_C(48), UINT8_C(48), UINT8_C(48), UINT8_C(69), UINT8_C(69), UINT8_C(48), UINT8_C(48), UINT8_C(48), UINT8_C(48), UINT8_C(48), UINT8_C(48), UINT8_C(48), UINT8_C(48), UINT8_C(48), UINT8_C(64), UINT8_C(48), UINT8_C(48), UINT8_C(48), UINT8_C(48), UINT8_C(48), UINT8_C(48), UINT8_C(48), UINT8_C(48), UINT8_C(48), UINT8_C(48), UINT8_C(48), UINT8_C(48), UINT8_C(48), UINT8_C(48), UINT8_C(67), UINT8_C(68), UINT8_C(48), UINT8_C(48), UINT8_C(48), UINT8_C(48), UINT8_C(66), UINT8_C(51), UINT8_C(48), UINT8_C(65), UINT8_C(52), UINT8_C(49), UINT8_C(50), UINT8_C(48), UINT8_C(48), UINT8_C(48), UINT8_C(48), UINT8_C(48), UINT8_C(50), UINT8_C(50), UINT8_C(50), UINT8_C(50), UINT8_C(48), UINT8_C(48), UINT8_C(48), UINT8_C(48), UINT8_C(48), UINT8_C(48), UINT8_C(48), UINT8_C(48), UINT8_C(48), UINT8_C(48), UINT8_C(48), UINT8_C(48), UINT8_C(48), UINT8_C(48), UINT8_C(48), UINT8_C(48), UINT8_C(48), UINT8_C(48), UINT8_C(48), UINT8_C(48), UINT8_C(48), UINT8_C(48), UINT8_C(48), UINT8_C(48), UINT8_C(49), UINT8_C(51), UINT8_C(48), UINT8_C(48), UINT8_C(49), UINT8_C(48), UINT8_C(48), UINT8_C(48), UINT8_C(48), UINT8_C(48), UINT8_C(48), UINT8_C(48), UINT8_C(48), UINT8_C(48), UINT8_C(48), UINT8_C(48), UINT8_C(48), UINT8_C(51), UINT8_C(48), UINT8_C(48), UINT8_C(48), UINT8_C(53), UINT8_C(53), UINT8_C(53), UINT8_C(53), UINT8_C(53), UINT8_C(53), UINT8_C(53), UINT8_C(53), UINT8_C(53), UINT8_C(53), UINT8_C(53), UINT8_C(53), UINT8_C(53), UINT8_C(48), UINT8_C(48), UINT8_C(48), UINT8_C(48), UINT8_C(48), UINT8_C(50), UINT8_C(48), UINT8_C(48), UINT8_C(49), UINT8_C(48), UINT8_C(48), UINT8_C(49), UINT8_C(49), UINT8_C(49), UINT8_C(48), UINT8_C(48), UINT8_C(48), UINT8_C(48), UINT8_C(48), UINT8_C(49), UINT8_C(49), UINT8_C(49), UINT8_C(49), UINT8_C(48), UINT8_C(48), UINT8_C(48), UINT8_C(48), UINT8_C(48), UINT8_C(51), UINT8_C(48), UINT8_C(51), UINT8_C(51), UINT8_C(48), UINT8_C(48), UINT8_C(52), UINT8_C(51), UINT8_C(48), UINT8_C(54), UINT8_C(52), UINT8_C(51), UINT8_C(52), UINT8_C(51), UINT8_C(48), UINT8_C(51), UINT8_C(48) } };
-static inline struct composing__Pen composing__write(rt_slice l1, rt_slice l2, rt_slice l3, rt_slice l4, rt_slice l5)
+static const struct rt_array_uint8_324 composing__write__l13 = { { UINT8_C(48), UINT8_C(48), UINT8_C(49), UINT8_C(48), UINT8_C(48), UINT8_C(48), UINT8_C(48), UINT8_C(48), UINT8_C(48), UINT8_C(48), UINT8_C(48), UINT8_C(48), UINT8_C(48), UINT8_C(48), UINT8_C(48), UINT8_C(48), UINT8_C(48), UINT8_C(48), UINT8_C(48), UINT8_C(48), UINT8_C(49), UINT8_C(48), UINT8_C(48), UINT8_C(50), UINT8_C(50), UINT8_C(50), UINT8_C(50), UINT8_C(50), UINT8_C(50), UINT8_C(50), UINT8_C(50), UINT8_C(50), UINT8_C(50), UINT8_C(50), UINT8_C(50), UINT8_C(50), UINT8_C(48), UINT8_C(48), UINT8_C(48), UINT8_C(48), UINT8_C(48), UINT8_C(48), UINT8_C(48), UINT8_C(48), UINT8_C(48), UINT8_C(48), UINT8_C(48), UINT8_C(49), UINT8_C(48), UINT8_C(48), UINT8_C(48), UINT8_C(48), UINT8_C(48), UINT8_C(48), UINT8_C(48), UINT8_C(48), UINT8_C(48), UINT8_C(48), UINT8_C(48), UINT8_C(48), UINT8_C(48), UINT8_C(48), UINT8_C(48), UINT8_C(49), UINT8_C(48), UINT8_C(49), UINT8_C(48), UINT8_C(48), UINT8_C(48), UINT8_C(48), UINT8_C(48), UINT8_C(48), UINT8_C(48), UINT8_C(48), UINT8_C(48), UINT8_C(48), UINT8_C(48), UINT8_C(48), UINT8_C(48), UINT8_C(49), UINT8_C(48), UINT8_C(48), UINT8_C(48), UINT8_C(48), UINT8_C(48), UINT8_C(48), UINT8_C(48), UINT8_C(48), UINT8_C(48), UINT8_C(48), UINT8_C(48), UINT8_C(48), UINT8_C(53), UINT8_C(54), UINT8_C(48), UINT8_C(48), UINT8_C(48), UINT8_C(48), UINT8_C(48), UINT8_C(48), UINT8_C(48), UINT8_C(48), UINT8_C(48), UINT8_C(48), UINT8_C(48), UINT8_C(48), UINT8_C(48), UINT8_C(48), UINT8_C(48), UINT8_C(48), UINT8_C(48), UINT8_C(48), UINT8_C(48), UINT8_C(48), UINT8_C(48), UINT8_C(48), UINT8_C(48), UINT8_C(48), UINT8_C(52), UINT8_C(52), UINT8_C(48), UINT8_C(48), UINT8_C(49), UINT8_C(49), UINT8_C(51), UINT8_C(51), UINT8_C(50), UINT8_C(49), UINT8_C(49), UINT8_C(49), UINT8_C(49), UINT8_C(49), UINT8_C(48), UINT8_C(48), UINT8_C(48), UINT8_C(48), UINT8_C(49), UINT8_C(49), UINT8_C(49), UINT8_C(49), UINT8_C(49), UINT8_C(49), UINT8_C(49), UINT8_C(49), UINT8_C(48), UINT8_C(48), UINT8_C(48), UINT8_C(48), UINT8_C(48), UINT8_C(48), UINT8_C(48), UINT8_C(48), UINT8_C(48), UINT8_C(48), UINT8_C(48), UINT8_C(48), UINT8_C(48), UINT8_C(48), UINT8_C(48), UINT8_C(48), UINT8_C(48), UINT8_C(48), UINT8_C(48), UINT8_C(48), UINT8_C(49), UINT8_C(48), UINT8_C(70), UINT8_C(71), UINT8_C(51), UINT8_C(48), UINT8_C(48), UINT8_C(48), UINT8_C(48), UINT8_C(69), UINT8_C(69), UINT8_C(48), UINT8_C(48), UINT8_C(48), UINT8_C(48), UINT8_C(48), UINT8_C(48), UINT8_C(48), UINT8_C(48), UINT8_C(48), UINT8_C(64), UINT8_C(48), UINT8_C(48), UINT8_C(48), UINT8_C(48), UINT8_C(48), UINT8_C(48), UINT8_C(48), UINT8_C(48), UINT8_C(48), UINT8_C(48), UINT8_C(48), UINT8_C(48), UINT8_C(48), UINT8_C(48), UINT8_C(67), UINT8_C(68), UINT8_C(48), UINT8_C(48), UINT8_C(48), UINT8_C(48), UINT8_C(66), UINT8_C(51), UINT8_C(48), UINT8_C(65), UINT8_C(52), UINT8_C(49), UINT8_C(50), UINT8_C(48), UINT8_C(48), UINT8_C(48), UINT8_C(48), UINT8_C(48), UINT8_C(50), UINT8_C(50), UINT8_C(50), UINT8_C(50), UINT8_C(48), UINT8_C(48), UINT8_C(48), UINT8_C(48), UINT8_C(48), UINT8_C(48), UINT8_C(48), UINT8_C(48), UINT8_C(48), UINT8_C(48), UINT8_C(48), UINT8_C(48), UINT8_C(48), UINT8_C(48), UINT8_C(48), UINT8_C(48), UINT8_C(48), UINT8_C(48), UINT8_C(48), UINT8_C(48), UINT8_C(48), UINT8_C(48), UINT8_C(48), UINT8_C(48), UINT8_C(49), UINT8_C(51), UINT8_C(48), UINT8_C(48), UINT8_C(49), UINT8_C(48), UINT8_C(48), UINT8_C(48), UINT8_C(48), UINT8_C(48), UINT8_C(48), UINT8_C(48), UINT8_C(48), UINT8_C(48), UINT8_C(48), UINT8_C(48), UINT8_C(48), UINT8_C(51), UINT8_C(48), UINT8_C(48), UINT8_C(48), UINT8_C(53), UINT8_C(53), UINT8_C(53), UINT8_C(53), UINT8_C(53), UINT8_C(53), UINT8_C(53), UINT8_C(53), UINT8_C(53), UINT8_C(53), UINT8_C(53), UINT8_C(53), UINT8_C(53), UINT8_C(48), UINT8_C(48), UINT8_C(48), UINT8_C(48), UINT8_C(48), UINT8_C(50), UINT8_C(48), UINT8_C(48), UINT8_C(49), UINT8_C(48), UINT8_C(48), UINT8_C(49), UINT8_C(49), UINT8_C(49), UINT8_C(48), UINT8_C(48), UINT8_C(48), UINT8_C(48), UINT8_C(48), UINT8_C(49), UINT8_C(49), UINT8_C(49), UINT8_C(49), UINT8_C(48), UINT8_C(48), UINT8_C(48), UINT8_C(48), UINT8_C(48), UINT8_C(51), UINT8_C(48), UINT8_C(51), UINT8_C(51), UINT8_C(48), UINT8_C(48), UINT8_C(52), UINT8_C(51), UINT8_C(48), UINT8_C(54), UINT8_C(52), UINT8_C(51), UINT8_C(52), UINT8_C(51), UINT8_C(48), UINT8_C(51), UINT8_C(48) } };
+static RT_HERE struct composing__Pen composing__write(rt_slice l1, rt_slice l2, rt_slice l3, rt_slice l4, rt_slice l5)
 {
     struct composing__Pen l0;
+    uint8_t *l6;
     uint8_t *l7;
     rt_slice l8;
     uint8_t *l9;
     rt_slice l10;
     uint8_t *l11;
     rt_slice l12;
-    l7 = (uint8_t *)&composing__write__l6;
+    l6 = (uint8_t *)&composing__write__l13;
+    l7 = (uint8_t *)&(*(uint8_t *)l6);
     l8.p = l7;
     l8.n = UINT64_C(324);
     l9 = (uint8_t *)&(*(uint8_t *)l4.p);
@@ -3822,7 +3879,7 @@ static inline struct composing__Pen composing__write(rt_slice l1, rt_slice l2, r
     return l0;
 }
 
-static inline struct composing__Pen composing__written(rt_slice l1, rt_slice l2, rt_slice l3, rt_slice l4, rt_slice l5, rt_slice l6)
+static RT_HERE struct composing__Pen composing__written(rt_slice l1, rt_slice l2, rt_slice l3, rt_slice l4, rt_slice l5, rt_slice l6)
 {
     struct composing__Pen l0;
     struct composing__Pen l7;
@@ -3878,11 +3935,22 @@ static inline struct composing__Pen composing__written(rt_slice l1, rt_slice l2,
         l8 = lexer__gaps__start(l3, l8);
     }
 end1:;
-    l0 = l7;
+    l0.f0 = l7.f0;
+    l0.f1 = l7.f1;
+    l0.f2 = l7.f2;
+    l0.f3 = l7.f3;
+    l0.f4 = l7.f4;
     return l0;
 }
 
-static inline struct count_images__Counts count_images__answered(rt_slice l1, rt_slice l2, rt_slice l3, rt_slice l4, struct count_images__Asking l5, rt_slice l6, rt_slice l7)
+static inline uint16_t core__num__wrapping_add_u16(uint16_t l1, uint16_t l2)
+{
+    uint16_t l0;
+    l0 = (uint16_t)((uint32_t)l1 + (uint32_t)l2);
+    return l0;
+}
+
+static RT_APART struct count_images__Counts count_images__answered(rt_slice l1, rt_slice l2, rt_slice l3, rt_slice l4, struct count_images__Asking l5, rt_slice l6, rt_slice l7)
 {
     struct count_images__Counts l0;
     struct rt_array_uint64_1024 l8;
@@ -3927,7 +3995,9 @@ static inline struct count_images__Counts count_images__answered(rt_slice l1, rt
     l18.p = l17;
     l18.n = UINT64_C(1024);
     count_images__prepared(l1, l2, l4, l5, l16, l18);
-    l10 = l5.f1;
+    l10.f0 = l5.f1.f0;
+    l10.f1 = l5.f1.f1;
+    l10.f2 = l5.f1.f2;
     l19 = (uint8_t)(UINT64_C(32) <= l10.f0);
     if (l19) {
         l0 = count_images__refused(UINT8_C(7));
@@ -3943,7 +4013,13 @@ static inline struct count_images__Counts count_images__answered(rt_slice l1, rt
         l0 = count_images__refused(UINT8_C(7));
         return l0;
     }
-    l11 = l5.f0.f1;
+    l11.f0 = l5.f0.f1.f0;
+    l11.f1 = l5.f0.f1.f1;
+    l11.f2 = l5.f0.f1.f2;
+    l11.f3 = l5.f0.f1.f3;
+    l11.f4 = l5.f0.f1.f4;
+    l11.f5 = l5.f0.f1.f5;
+    l11.f6 = l5.f0.f1.f6;
     l24 = (uint8_t *)&(*(uint16_t *)l6.p);
     l25.p = l24;
     l25.n = l6.n;
@@ -3972,7 +4048,8 @@ static inline struct count_images__Counts count_images__answered(rt_slice l1, rt
     l32 = (uint8_t *)&(*(uint16_t *)l6.p);
     l33.p = l32;
     l33.n = l6.n;
-    l11.f5 = scheduler__count__holding(l33, l11.f0);
+    l22 = scheduler__count__holding(l33, l11.f0);
+    l11.f5 = l22;
     l34.f0 = l11;
     l35 = (uint8_t *)&l8;
     l36.p = l35;
@@ -3993,7 +4070,7 @@ static inline struct count_images__Counts count_images__answered(rt_slice l1, rt
     return l0;
 }
 
-static inline struct count_images__Counts count_images__begun(struct seating__Opened l1, rt_slice l2, rt_slice l3, rt_slice l4, struct count_images__Question l5, rt_slice l6)
+static RT_APART struct count_images__Counts count_images__begun(struct seating__Opened l1, rt_slice l2, rt_slice l3, rt_slice l4, struct count_images__Question l5, rt_slice l6)
 {
     struct count_images__Counts l0;
     struct load__Loaded l7;
@@ -4027,7 +4104,13 @@ static inline struct count_images__Counts count_images__begun(struct seating__Op
     rt_slice l35;
     uint8_t *l37;
     rt_slice l38;
-    l7 = l1.f0;
+    l7.f0 = l1.f0.f0;
+    l7.f1 = l1.f0.f1;
+    l7.f2 = l1.f0.f2;
+    l7.f3 = l1.f0.f3;
+    l7.f4 = l1.f0.f4;
+    l7.f5 = l1.f0.f5;
+    l7.f6 = l1.f0.f6;
     l8 = l1.f1;
     l9 = l1.f2;
     l10 = (uint64_t)l7.f3;
@@ -4053,7 +4136,14 @@ static inline struct count_images__Counts count_images__begun(struct seating__Op
     l17 = seating__seat_table(l7.f1, l12, l13, l4, l24, l26, l28);
     switch (l17.tag) {
         case UINT8_C(0): {
-            l18 = l17.s0;
+            l18.f0 = l17.s0.f0;
+            l18.f1.f0 = l17.s0.f1.f0;
+            l18.f1.f1 = l17.s0.f1.f1;
+            l18.f1.f2 = l17.s0.f1.f2;
+            l18.f1.f3 = l17.s0.f1.f3;
+            l18.f1.f4 = l17.s0.f1.f4;
+            l18.f1.f5 = l17.s0.f1.f5;
+            l18.f1.f6 = l17.s0.f1.f6;
             break;
         }
         case UINT8_C(1): default: {
@@ -4083,18 +4173,24 @@ static inline struct count_images__Counts count_images__begun(struct seating__Op
     l20 = count_images__answered(l2, l12, l13, l3, l19, l33, l35);
     l31 = (uint8_t)(l20.f0 != UINT8_C(0));
     if (l31) {
-        l0 = l20;
+        l0.f0 = l20.f0;
+        l0.f1 = l20.f1;
+        l0.f2 = l20.f2;
+        l0.f3 = l20.f3;
         return l0;
     }
     l37 = (uint8_t *)&(*(uint64_t *)l6.p);
     l38.p = l37;
     l38.n = l6.n;
     emit_steps__program(l2, l12, l18.f0, l38);
-    l0 = l20;
+    l0.f0 = l20.f0;
+    l0.f1 = l20.f1;
+    l0.f2 = l20.f2;
+    l0.f3 = l20.f3;
     return l0;
 }
 
-static inline struct count_images__Counts count_images__count(rt_slice l1, rt_slice l2, uint32_t l3, uint32_t l4, uint32_t l5, rt_slice l6)
+static RT_APART struct count_images__Counts count_images__count(rt_slice l1, rt_slice l2, uint32_t l3, uint32_t l4, uint32_t l5, rt_slice l6)
 {
     struct count_images__Counts l0;
     struct rt_array_uint8_5730 l7;
@@ -4145,7 +4241,13 @@ static inline struct count_images__Counts count_images__count(rt_slice l1, rt_sl
     l11 = seating__admit(l1, l17, l19, l21, l23);
     switch (l11.tag) {
         case UINT8_C(0): {
-            l12 = l11.s0;
+            l12.f0 = l11.s0.f0;
+            l12.f1 = l11.s0.f1;
+            l12.f2 = l11.s0.f2;
+            l12.f3 = l11.s0.f3;
+            l12.f4 = l11.s0.f4;
+            l12.f5 = l11.s0.f5;
+            l12.f6 = l11.s0.f6;
             break;
         }
         case UINT8_C(1): default: {
@@ -4285,7 +4387,7 @@ static inline void count_images__prepared(rt_slice l1, rt_slice l2, rt_slice l3,
     return;
 }
 
-static inline struct count_images__Counts count_images__refused(uint8_t l1)
+static RT_HERE struct count_images__Counts count_images__refused(uint8_t l1)
 {
     struct count_images__Counts l0;
     l0.f0 = l1;
@@ -4415,7 +4517,9 @@ static inline struct counting__count__Tally counting__count__all(struct engine__
         l9 = (uint64_t)((uint64_t)l9 + (uint64_t)UINT64_C(1));
     }
 end1:;
-    l0 = l8;
+    l0.f0 = l8.f0;
+    l0.f1 = l8.f1;
+    l0.f2 = l8.f2;
     return l0;
 }
 
@@ -4541,7 +4645,9 @@ static inline struct counting__count__Tally counting__count__one(struct engine__
     l32.p = l31;
     l32.n = l5.n;
     counting__rows__restore(l30, l32, l6, l8, l9);
-    l0 = l11;
+    l0.f0 = l11.f0;
+    l0.f1 = l11.f1;
+    l0.f2 = l11.f2;
     return l0;
 }
 
@@ -4586,7 +4692,7 @@ static inline uint64_t counting__rows__fresh_row(uint64_t l1, uint64_t l2)
     return l0;
 }
 
-static inline struct rt_array_uint16_6 counting__rows__numbers_of(rt_slice l1, uint64_t l2)
+static RT_HERE struct rt_array_uint16_6 counting__rows__numbers_of(rt_slice l1, uint64_t l2)
 {
     struct rt_array_uint16_6 l0;
     struct rt_array_uint16_6 l3;
@@ -4640,7 +4746,8 @@ static inline void counting__rows__restore(rt_slice l1, rt_slice l2, uint64_t l3
     rt_slice l26;
     uint8_t *l27;
     rt_slice l28;
-    uint8_t *l29;
+    uint64_t l29;
+    uint8_t *l30;
     l6 = l5.f0;
     l7 = l5.f1;
     l8 = l5.f2;
@@ -4678,13 +4785,14 @@ static inline void counting__rows__restore(rt_slice l1, rt_slice l2, uint64_t l3
     l28.p = l27;
     l28.n = UINT64_C(32);
     counting__copies__cells(l26, l14, l28);
+    l29 = l5.f5;
     l14 = (uint64_t)((uint64_t)l10 * (uint64_t)UINT64_C(8));
-    l29 = l2.p + (size_t)l14;
-    (*(uint64_t *)l29) = l5.f5;
+    l30 = l2.p + (size_t)l14;
+    (*(uint64_t *)l30) = l29;
     return;
 }
 
-static inline struct rt_array_uint64_32 counting__rows__row_of(rt_slice l1, uint64_t l2)
+static RT_HERE struct rt_array_uint64_32 counting__rows__row_of(rt_slice l1, uint64_t l2)
 {
     struct rt_array_uint64_32 l0;
     struct rt_array_uint64_32 l3;
@@ -4820,7 +4928,7 @@ static inline struct text_shape__Act derive__act_at(rt_slice l1, rt_slice l2, ui
     return l0;
 }
 
-static inline struct derive__Mark derive__below(rt_slice l1, rt_slice l2, rt_slice l3, uint64_t l4, uint8_t l5)
+static RT_HERE struct derive__Mark derive__below(rt_slice l1, rt_slice l2, rt_slice l3, uint64_t l4, uint8_t l5)
 {
     struct derive__Mark l0;
     uint64_t l6;
@@ -4872,11 +4980,12 @@ static inline struct derive__Mark derive__below(rt_slice l1, rt_slice l2, rt_sli
             break;
         }
     }
-    l0 = l16;
+    l0.f0 = l16.f0;
+    l0.f1 = l16.f1;
     return l0;
 }
 
-static inline struct derive__Mark derive__dead(void)
+static RT_HERE struct derive__Mark derive__dead(void)
 {
     struct derive__Mark l0;
     l0.f0 = UINT8_C(0);
@@ -4884,29 +4993,35 @@ static inline struct derive__Mark derive__dead(void)
     return l0;
 }
 
-static const struct rt_array_uint8_1833 derive__derived__l3 = { { UINT8_C(48), UINT8_C(48), UINT8_C(48), UINT8_C(48), UINT8_C(48), UINT8_C(48), UINT8_C(48), UINT8_C(48), UINT8_C(48), UINT8_C(48), UINT8_C(48), UINT8_C(48), UINT8_C(48), UINT8_C(48), UINT8_C(48), UINT8_C(48), UINT8_C(48), UINT8_C(48), UINT8_C(48), UINT8_C(48), UINT8_C(48), UINT8_C(48), UINT8_C(48), UINT8_C(48), UINT8_C(48), UINT8_C(48), UINT8_C(48), UINT8_C(48), UINT8_C(48), UINT8_C(48), UINT8_C(48), UINT8_C(48), UINT8_C(48), UINT8_C(48), UINT8_C(48), UINT8_C(48), UINT8_C(48), UINT8_C(48), UINT8_C(48), UINT8_C(48), UINT8_C(51), UINT8_C(48), UINT8_C(48), UINT8_C(48), UINT8_C(48), UINT8_C(48), UINT8_C(48), UINT8_C(48), UINT8_C(48), UINT8_C(48), UINT8_C(48), UINT8_C(48), UINT8_C(48), UINT8_C(48), UINT8_C(48), UINT8_C(48), UINT8_C(48), UINT8_C(48), UINT8_C(48), UINT8_C(48), UINT8_C(48), UINT8_C(48), UINT8_C(48), UINT8_C(48), UINT8_C(48), UINT8_C(48), UINT8_C(48), UINT8_C(48), UINT8_C(48), UINT8_C(48), UINT8_C(48), UINT8_C(48), UINT8_C(48), UINT8_C(48), UINT8_C(48), UINT8_C(48), UINT8_C(48), UINT8_C(48), UINT8_C(48), UINT8_C(51), UINT8_C(48), UINT8_C(48), UINT8_C(48), UINT8_C(48), UINT8_C(80), UINT8_C(48), UINT8_C(48), UINT8_C(48), UINT8_C(48), UINT8_C(48), UINT8_C(48), UINT8_C(48), UINT8_C(48), UINT8_C(48), UINT8_C(48), UINT8_C(48), UINT8_C(48), UINT8_C(48), UINT8_C(48), UINT8_C(48), UINT8_C(48), UINT8_C(48), UINT8_C(48), UINT8_C(48), UINT8_C(48), UINT8_C(48), UINT8_C(48), UINT8_C(48), UINT8_C(48), UINT8_C(48), UINT8_C(48), UINT8_C(48), UINT8_C(48), UINT8_C(48), UINT8_C(78), UINT8_C(48), UINT8_C(48), UINT8_C(48), UINT8_C(48), UINT8_C(48), UINT8_C(48), UINT8_C(48), UINT8_C(48), UINT8_C(48), UINT8_C(48), UINT8_C(48), UINT8_C(48), UINT8_C(48), UINT8_C(48), UINT8_C(48), UINT8_C(48), UINT8_C(48), UINT8_C(48), UINT8_C(48), UINT8_C(48), UINT8_C(48), UINT8_C(48), UINT8_C(48), UINT8_C(48), UINT8_C(48), UINT8_C(48), UINT8_C(48), UINT8_C(48), UINT8_C(48), UINT8_C(48), UINT8_C(48), UINT8_C(48), UINT8_C(48), UINT8_C(48), UINT8_C(48), UINT8_C(48), UINT8_C(48), UINT8_C(48), UINT8_C(52), UINT8_C(48), UINT8_C(48), UINT8_C(48), UINT8_C(48), UINT8_C(48), UINT8_C(48), UINT8_C(48), UINT8_C(48), UINT8_C(48), UINT8_C(48), UINT8_C(48), UINT8_C(48), UINT8_C(48), UINT8_C(48), UINT8_C(48), UINT8_C(53), UINT8_C(48), UINT8_C(48), UINT8_C(48), UINT8_C(48), UINT8_C(48), UINT8_C(48), UINT8_C(48), UINT8_C(48), UINT8_C(48), UINT8_C(48), UINT8_C(48), UINT8_C(48), UINT8_C(48), UINT8_C(48), UINT8_C(48), UINT8_C(48), UINT8_C(48), UINT8_C(48), UINT8_C(48), UINT8_C(48), UINT8_C(48), UINT8_C(48), UINT8_C(48), UINT8_C(48), UINT8_C(48), UINT8_C(48), UINT8_C(48), UINT8_C(48), UINT8_C(48), UINT8_C(48), UINT8_C(48), UINT8_C(48), UINT8_C(48), UINT8_C(48), UINT8_C(48), UINT8_C(48), UINT8_C(48), UINT8_C(48), UINT8_C(48), UINT8_C(58), UINT8_C(48), UINT8_C(48), UINT8_C(48), UINT8_C(48), UINT8_C(48), UINT8_C(48), UINT8_C(48), UINT8_C(48), UINT8_C(48), UINT8_C(48), UINT8_C(48), UINT8_C(48), UINT8_C(48), UINT8_C(48), UINT8_C(48), UINT8_C(48), UINT8_C(48), UINT8_C(48), UINT8_C(48), UINT8_C(48), UINT8_C(48), UINT8_C(55), UINT8_C(48), UINT8_C(48), UINT8_C(48), UINT8_C(48), UINT8_C(48), UINT8_C(48), UINT8_C(48), UINT8_C(48), UINT8_C(48), UINT8_C(48), UINT8_C(48), UINT8_C(48), UINT8_C(48), UINT8_C(48), UINT8_C(48), UINT8_C(48), UINT8_C(48), UINT8_C(48), UINT8_C(48), UINT8_C(48), UINT8_C(48), UINT8_C(48), UINT8_C(48), UINT8_C(48), UINT8_C(48), UINT8_C(48), UINT8_C(48), UINT8_C(48), UINT8_C(48), UINT8_C(48), UINT8_C(48), UINT8_C(48), UINT8_C(48), UINT8_C(48), UINT8_C(48), UINT8_C(48), UINT8_C(48), UINT8_C(48), UINT8_C(55), UINT8_C(48), UINT8_C(48), UINT8_C(48), UINT8_C(48), UINT8_C(48), UINT8_C(48), UINT8_C(48), UINT8_C(48), UINT8_C(48), UINT8_C(48), UINT8_C(48), UINT8_C(48), UINT8_C(48), UINT8_C(48), UINT8_C(48), UINT8_C(48), UINT8_C(48), UINT8_C(48), UINT8_C(48), UINT8_C(48), UINT8_C(56), UINT8_C(48), UINT8_C(48), UINT8_C(48), UINT8_C(48), UINT8_C(48), UINT8_C(48), UINT8_C(48), UINT8_C(48), UINT8_C(48), UINT8_C(48), UINT8_C(48), UINT8_C(48), UINT8_C(48), UINT8_C(48), UINT8_C(48), UINT8_C(48), UINT8_C(48), UINT8_C(48), UINT8_C(48), UINT8_C(48), UINT8_C(48), UINT8_C(48), UINT8_C(48), UINT8_C(48), UINT8_C(48), UINT8_C(48), UINT8_C(48), UINT8_C(57), UINT8_C(57), UINT8_C(57), UINT8_C(48), UINT8_C(48), UINT8_C(48), UINT8_C(48), UINT8_C(48), UINT8_C(48), UINT8_C(48), UINT8_C(48), UINT8_C(48), UINT8_C(48), UINT8_C(48), UINT8_C(48), UINT8_C(48), UINT8_C(48), UINT8_C(48), UINT8_C(48), UINT8_C(48), UINT8_C(48), UINT8_C(48), UINT8_C(48), UINT8_C(48), UINT8_C(48), UINT8_C(48), UINT8_C(48), UINT8_C(48), UINT8_C(48), UINT8_C(57), UINT8_C(48), UINT8_C(48), UINT8_C(48), UINT8_C(48), UINT8_C(48), UINT8_C(48), UINT8_C(48), UINT8_C(48), UINT8_C(48), UINT8_C(48), UINT8_C(48), UINT8_C(48), UINT8_C(48), UINT8_C(48), UINT8_C(48), UINT8_C(48), UINT8_C(58), UINT8_C(48), UINT8_C(48), UINT8_C(54), UINT8_C(48), UINT8_C(48), UINT8_C(48), UINT8_C(48), UINT8_C(48), UINT8_C(48), UINT8_C(48), UINT8_C(48), UINT8_C(48), UINT8_C(48), UINT8_C(48), UINT8_C(48), UINT8_C(48), UINT8_C(48), UINT8_C(48), UINT8_C(48), UINT8_C(48), UINT8_C(48), UINT8_C(48), UINT8_C(48), UINT8_C(48), UINT8_C(48), UINT8_C(48), UINT8_C(48), UINT8_C(48), UINT8_C(48), UINT8_C(48), UINT8_C(48), UINT8_C(48), UINT8_C(48), UINT8_C(48), UINT8_C(48), UINT8_C(48), UINT8_C(48), UINT8_C(48), UINT8_C(48), UINT8_C(59), UINT8_C(48), UINT8_C(48), UINT8_C(48), UINT8_C(48), UINT8_C(48), UINT8_C(48), UINT8_C(48), UINT8_C(48), UINT8_C(48), UINT8_C(48), UINT8_C(48), UINT8_C(48), UINT8_C(48), UINT8_C(48), UINT8_C(48), UINT8_C(48), UINT8_C(48), UINT8_C(48), UINT8_C(48), UINT8_C(48), UINT8_C(48), UINT8_C(48), UINT8_C(48), UINT8_C(48), UINT8_C(48), UINT8_C(48), UINT8_C(48), UINT8_C(48), UINT8_C(48), UINT8_C(48), UINT8_C(48), UINT8_C(48), UINT8_C(48), UINT8_C(48), UINT8_C(48), UINT8_C(48), UINT8_C(48), UINT8_C(48), UINT8_C(48), UINT8_C(50), UINT8_C(48), UINT8_C(48), UINT8_C(48), UINT8_C(48), UINT8_C(48), UINT8_C(48), UINT8_C(48), UINT8_C(48), UINT8_C(48), UINT8_C(48), UINT8_C(48), UINT8_C(48), UINT8_C(48), UINT8_C(48), UINT8_C(48), UINT8_C(48), UINT8_C(48), UINT8_C(48), UINT8_C(48), UINT8_C(60), UINT8_C(48), UINT8_C(48), UINT8_C(48), UINT8_C(48), UINT8_C(48), UINT8_C(48), UINT8_C(48), UINT8_C(48), UINT8_C(48), UINT8_C(48), UINT8_C(48), UINT8_C(48), UINT8_C(48), UINT8_C(48), UINT8_C(48), UINT8_C(48), UINT8_C(48), UINT8_C(61), UINT8_C(48), UINT8_C(48), UINT8_C(48), UINT8_C(48), UINT8_C(48), UINT8_C(48), UINT8_C(48), UINT8_C(48), UINT8_C(48), UINT8_C(48), UINT8_C(48), UINT8_C(48), UINT8_C(48), UINT8_C(48), UINT8_C(48), UINT8_C(48), UINT8_C(48), UINT8_C(48), UINT8_C(48), UINT8_C(48), UINT8_C(48), UINT8_C(48), UINT8_C(48), UINT8_C(48), UINT8_C(48), UINT8_C(70), UINT8_C(48), UINT8_C(48), UINT8_C(48), UINT8_C(48), UINT8_C(65), UINT8_C(65), UINT8_C(65), UINT8_C(48), UINT8_C(48), UINT8_C(48), UINT8_C(48), UINT8_C(48), UINT8_C(48), UINT8_C(111), UINT8_C(48), UINT8_C(48), UINT8_C(48), UINT8_C(48), UINT8_C(48), UINT8_C(48), UINT8_C(48), UINT8_C(48), UINT8_C(48), UINT8_C(48), UINT8_C(48), UINT8_C(48), UINT8_C(48), UINT8_C(48), UINT8_C(48), UINT8_C(48), UINT8_C(48), UINT8_C(48), UINT8_C(48), UINT8_C(62), UINT8_C(48), UINT8_C(48), UINT8_C(48), UINT8_C(48), UINT8_C(48), UINT8_C(48), UINT8_C(48), UINT8_C(48), UINT8_C(48), UINT8_C(48), UINT8_C(48), UINT8_C(48), UINT8_C(48), UINT8_C(48), UINT8_C(48), UINT8_C(67), UINT8_C(48), UINT8_C(48), UINT8_C(48), UINT8_C(48), UINT8_C(48), UINT8_C(48), UINT8_C(70), UINT8_C(63), UINT8_C(48), UINT8_C(48), UINT8_C(48), UINT8_C(48), UINT8_C(48), UINT8_C(48), UINT8_C(48), UINT8_C(48), UINT8_C(48), UINT8_C(48), UINT8_C(48), UINT8_C(48), UINT8_C(48), UINT8_C(48), UINT8_C(66), UINT8_C(48), UINT8_C(48), UINT8_C(48), UINT8_C(48), UINT8_C(48), UINT8_C(48), UINT8_C(48), UINT8_C(48), UINT8_C(48), UINT8_C(48), UINT8_C(48), UINT8_C(48), UINT8_C(48), UINT8_C(48), UINT8_C(48), UINT8_C(48), UINT8_C(48), UINT8_C(48), UINT8_C(48), UINT8_C(48), UINT8_C(48), UINT8_C(48), UINT8_C(48), UINT8_C(48), UINT8_C(48), UINT8_C(48), UINT8_C(48), UINT8_C(48), UINT8_C(48), UINT8_C(48), UINT8_C(48), UINT8_C(48), UINT8_C(48), UINT8_C(48), UINT8_C(48), UINT8_C(48), UINT8_C(48), UINT8_C(48), UINT8_C(64), UINT8_C(48), UINT8_C(48), UINT8_C(48), UINT8_C(48), UINT8_C(48), UINT8_C(48), UINT8_C(48), UINT8_C(48), UINT8_C(48), UINT8_C(48), UINT8_C(48), UINT8_C(48), UINT8_C(48), UINT8_C(48), UINT8_C(48), UINT8_C(48), UINT8_C(48), UINT8_C(48), UINT8_C(48), UINT8_C(48), UINT8_C(48), UINT8_C(48), UINT8_C(70), UINT8_C(63), UINT8_C(48), UINT8_C(48), UINT8_C(48), UINT8_C(48), UINT8_C(48), UINT8_C(48), UINT8_C(48), UINT8_C(48), UINT8_C(48), UINT8_C(48), UINT8_C(48), UINT8_C(48), UINT8_C(48), UINT8_C(48), UINT8_C(48), UINT8_C(48), UINT8_C(48), UINT8_C(48), UINT8_C(48), UINT8_C(48), UINT8_C(48), UINT8_C(48), UINT8_C(48), UINT8_C(48), UINT8_C(48), UINT8_C(48), UINT8_C(48), UINT8_C(48), UINT8_C(48), UINT8_C(48), UINT8_C(48), UINT8_C(48), UINT8_C(48), UINT8_C(48), UINT8_C(48), UINT8_C(48), UINT8_C(48), UINT8_C(48), UINT8_C(48), UINT8_C(48), UINT8_C(48), UINT8_C(48), UINT8_C(48), UINT8_C(48), UINT8_C(48), UINT8_C(48), UINT8_C(48), UINT8_C(48), UINT8_C(48), UINT8_C(48), UINT8_C(48), UINT8_C(48), UINT8_C(48), UINT8_C(66), UINT8_C(48), UINT8_C(48), UINT8_C(48), UINT8_C(48), UINT8_C(48), UINT8_C(48), UINT8_C(48), UINT8_C(48), UINT8_C(48), UINT8_C(48), UINT8_C(48), UINT8_C(48), UINT8_C(48), UINT8_C(48), UINT8_C(48), UINT8_C(48), UINT8_C(48), UINT8_C(48), UINT8_C(48), UINT8_C(48), UINT8_C(48), UINT8_C(48), UINT8_C(70), UINT8_C(48), UINT8_C(48), UINT8_C(48), UINT8_C(48), UINT8_C(48), UINT8_C(48), UINT8_C(48), UINT8_C(48), UINT8_C(48), UINT8_C(48), UINT8_C(48), UINT8_C(48), UINT8_C(48), UINT8_C(48), UINT8_C(48), UINT8_C(48), UINT8_C(48), UINT8_C(48), UINT8_C(48), UINT8_C(48), UINT8_C(48), UINT8_C(48), UINT8_C(76), UINT8_C(71), UINT8_C(48), UINT8_C(48), UINT8_C(48), UINT8_C(48), UINT8_C(48), UINT8_C(71), UINT8_C(71), UINT8_C(70), UINT8_C(111), UINT8_C(48), UINT8_C(48), UINT8_C(48), UINT8_C(48), UINT8_C(48), UINT8_C(48), UINT8_C(48), UINT8_C(70), UINT8_C(48), UINT8_C(48), UINT8_C(48), UINT8_C(48), UINT8_C(48), UINT8_C(48), UINT8_C(48), UINT8_C(48), UINT8_C(48), UINT8_C(48), UINT8_C(48), UINT8_C(48), UINT8_C(48), UINT8_C(72), UINT8_C(71), UINT8_C(71), UINT8_C(48), UINT8_C(48), UINT8_C(48), UINT8_C(48), UINT8_C(48), UINT8_C(48), UINT8_C(48), UINT8_C(48), UINT8_C(48), UINT8_C(48), UINT8_C(48), UINT8_C(48), UINT8_C(48), UINT8_C(48), UINT8_C(48), UINT8_C(48), UINT8_C(48), UINT8_C(48), UINT8_C(48), UINT8_C(61), UINT8_C(48), UINT8_C(48), UINT8_C(48), UINT8_C(48), UINT8_C(48), UINT8_C(48), UINT8_C(48), UINT8_C(48), UINT8_C(48), UINT8_C(48), UINT8_C(48), UINT8_C(48), UINT8_C(48), UINT8_C(48), UINT8_C(48), UINT8_C(48), UINT8_C(48), UINT8_C(48), UINT8_C(48), UINT8_C(48), UINT8_C(48), UINT8_C(48), UINT8_C(48), UINT8_C(48), UINT8_C(48), UINT8_C(48), UINT8_C(48), UINT8_C(48), UINT8_C(48), UINT8_C(48), UINT8_C(48), UINT8_C(48), UINT8_C(48), UINT8_C(48), UINT8_C(61), UINT8_C(48), UINT8_C(48), UINT8_C(48), UINT8_C(48), UINT8_C(48), UINT8_C(48), UINT8_C(48), UINT8_C(48), UINT8_C(48), UINT8_C(48), UINT8_C(48), UINT8_C(48), UINT8_C(48), UINT8_C(48), UINT8_C(48), UINT8_C(48), UINT8_C(48), UINT8_C(48), UINT8_C(48), UINT8_C(48), UINT8_C(48), UINT8_C(48), UINT8_C(48), UINT8_C(48), UINT8_C(48), UINT8_C(48), UINT8_C(48), UINT8_C(76), UINT8_C(71), UINT8_C(48), UINT8_C(48), UINT8_C(48), UINT8_C(48), UINT8_C(48), UINT8_C(71), UINT8_C(71), UINT8_C(70), UINT8_C(48), UINT8_C(48), UINT8_C(48), UINT8_C(48), UINT8_C(48), UINT8_C(48), UINT8_C(48), UINT8_C(48), UINT8_C(70), UINT8_C(48), UINT8_C(48), UINT8_C(48), UINT8_C(48), UINT8_C(48), UINT8_C(48), UINT8_C(48), UINT8_C(48), UINT8_C(48), UINT8_C(48), UINT8_C(48), UINT8_C(48), UINT8_C(48), UINT8_C(72), UINT8_C(71), UINT8_C(71), UINT8_C(111), UINT8_C(111), UINT8_C(111), UINT8_C(111), UINT8_C(111), UINT8_C(111), UINT8_C(111), UINT8_C(111), UINT8_C(111), UINT8_C(111), UINT8_C(111), UINT8_C(111), UINT8_C(111), UINT8_C(111), UINT8_C(111), UINT8_C(111), UINT8_C(111), UINT8_C(111), UINT8_C(111), UINT8_C(111), UINT8_C(111), UINT8_C(111), UINT8_C(111), UINT8_C(111), UINT8_C(111), UINT8_C(111), UINT8_C(111), UINT8_C(111), UINT8_C(111), UINT8_C(111), UINT8_C(111), UINT8_C(111), UINT8_C(111), UINT8_C(111), UINT8_C(111), UINT8_C(111), UINT8_C(111), UINT8_C(111), UINT8_C(111), UINT8_C(111), UINT8_C(111), UINT8_C(111), UINT8_C(111), UINT8_C(111), UINT8_C(111), UINT8_C(111), UINT8_C(111), UINT8_C(111), UINT8_C(111), UINT8_C(111), UINT8_C(111), UINT8_C(111), UINT8_C(75), UINT8_C(111), UINT8_C(111), UINT8_C(111), UINT8_C(111), UINT8_C(111), UINT8_C(111), UINT8_C(111), UINT8_C(73), UINT8_C(111), UINT8_C(111), UINT8_C(111), UINT8_C(111), UINT8_C(111), UINT8_C(111), UINT8_C(111), UINT8_C(111), UINT8_C(111), UINT8_C(111), UINT8_C(111), UINT8_C(111), UINT8_C(111), UINT8_C(111), UINT8_C(111), UINT8_C(111), UINT8_C(111), UINT8_C(48), UINT8_C(48), UINT8_C(48), UINT8_C(48), UINT8_C(48), UINT8_C(48), UINT8_C(48), UINT8_C(48), UINT8_C(48), UINT8_C(48), UINT8_C(48), UINT8_C(48), UINT8_C(48), UINT8_C(48), UINT8_C(48), UINT8_C(48), UINT8_C(48), UINT8_C(48), UINT8_C(48), UINT8_C(48), UINT8_C(48), UINT8_C(48), UINT8_C(48), UINT8_C(48), UINT8_C(48), UINT8_C(48), UINT8_C(48), UINT8_C(48), UINT8_C(48), UINT8_C(48), UINT8_C(48), UINT8_C(48), UINT8_C(48), UINT8_C(48), UINT8_C(48), UINT8_C(48), UINT8_C(74), UINT8_C(48), UINT8_C(48), UINT8_C(111), UINT8_C(111), UINT8_C(111), UINT8_C(111), UINT8_C(111), UINT8_C(111), UINT8_C(111), UINT8_C(111), UINT8_C(111), UINT8_C(111), UINT8_C(111), UINT8_C(111), UINT8_C(111), UINT8_C(111), UINT8_C(111), UINT8_C(111), UINT8_C(111), UINT8_C(111), UINT8_C(111), UINT8_C(111), UINT8_C(111), UINT8_C(73), UINT8_C(111), UINT8_C(111), UINT8_C(111), UINT8_C(111), UINT8_C(111), UINT8_C(111), UINT8_C(111), UINT8_C(111), UINT8_C(111), UINT8_C(111), UINT8_C(111), UINT8_C(111), UINT8_C(111), UINT8_C(111), UINT8_C(111), UINT8_C(111), UINT8_C(111), UINT8_C(48), UINT8_C(48), UINT8_C(48), UINT8_C(48), UINT8_C(76), UINT8_C(71), UINT8_C(48), UINT8_C(48), UINT8_C(48), UINT8_C(48), UINT8_C(48), UINT8_C(71), UINT8_C(71), UINT8_C(70), UINT8_C(111), UINT8_C(48), UINT8_C(48), UINT8_C(48), UINT8_C(48), UINT8_C(48), UINT8_C(48), UINT8_C(48), UINT8_C(70), UINT8_C(48), UINT8_C(48), UINT8_C(48), UINT8_C(48), UINT8_C(48), UINT8_C(48), UINT8_C(48), UINT8_C(48), UINT8_C(48), UINT8_C(48), UINT8_C(48), UINT8_C(48), UINT8_C(48), UINT8_C(72), UINT8_C(71), UINT8_C(71), UINT8_C(48), UINT8_C(48), UINT8_C(48), UINT8_C(48), UINT8_C(48), UINT8_C(48), UINT8_C(48), UINT8_C(71), UINT8_C(71), UINT8_C(71), UINT8_C(48), UINT8_C(48), UINT8_C(48), UINT8_C(48), UINT8_C(48), UINT8_C(48), UINT8_C(48), UINT8_C(48), UINT8_C(48), UINT8_C(48), UINT8_C(48), UINT8_C(48), UINT8_C(48), UINT8_C(48), UINT8_C(48), UINT8_C(48), UINT8_C(48), UINT8_C(48), UINT8_C(48), UINT8_C(48), UINT8_C(48), UINT8_C(48), UINT8_C(48), UINT8_C(48), UINT8_C(48), UINT8_C(48), UINT8_C(71), UINT8_C(48), UINT8_C(48), UINT8_C(48), UINT8_C(48), UINT8_C(48), UINT8_C(48), UINT8_C(48), UINT8_C(48), UINT8_C(80), UINT8_C(48), UINT8_C(48), UINT8_C(48), UINT8_C(48), UINT8_C(48), UINT8_C(48), UINT8_C(48), UINT8_C(48), UINT8_C(48), UINT8_C(48), UINT8_C(48), UINT8_C(48), UINT8_C(48), UINT8_C(48), UINT8_C(48), UINT8_C(48), UINT8_C(48), UINT8_C(48), UINT8_C(48), UINT8_C(48), UINT8_C(48), UINT8_C(48), UINT8_C(48), UINT8_C(48), UINT8_C(48), UINT8_C(48), UINT8_C(48), UINT8_C(48), UINT8_C(48), UINT8_C(78), UINT8_C(48), UINT8_C(48), UINT8_C(48), UINT8_C(48), UINT8_C(48), UINT8_C(48), UINT8_C(48), UINT8_C(48), UINT8_C(48), UINT8_C(48), UINT8_C(48), UINT8_C(48), UINT8_C(48), UINT8_C(48), UINT8_C(48), UINT8_C(48), UINT8_C(111), UINT8_C(48), UINT8_C(48), UINT8_C(48), UINT8_C(48), UINT8_C(48), UINT8_C(48), UINT8_C(79), UINT8_C(48), UINT8_C(48), UINT8_C(48), UINT8_C(48), UINT8_C(48), UINT8_C(77), UINT8_C(48), UINT8_C(48), UINT8_C(48), UINT8_C(48), UINT8_C(48), UINT8_C(48), UINT8_C(48), UINT8_C(48), UINT8_C(48), UINT8_C(48), UINT8_C(48), UINT8_C(48), UINT8_C(48), UINT8_C(48), UINT8_C(48), UINT8_C(48), UINT8_C(48), UINT8_C(48), UINT8_C(48), UINT8_C(48), UINT8_C(48), UINT8_C(48), UINT8_C(48), UINT8_C(48), UINT8_C(48), UINT8_C(48), UINT8_C(48), UINT8_C(48), UINT8_C(48), UINT8_C(48), UINT8_C(48), UINT8_C(48), UINT8_C(48), UINT8_C(48), UINT8_C(48), UINT8_C(48), UINT8_C(48), UINT8_C(48), UINT8_C(48), UINT8_C(48), UINT8_C(48), UINT8_C(48), UINT8_C(48), UINT8_C(48), UINT8_C(48), UINT8_C(48), UINT8_C(48), UINT8_C(81), UINT8_C(48), UINT8_C(48), UINT8_C(48), UINT8_C(48), UINT8_C(48), UINT8_C(48), UINT8_C(48), UINT8_C(48), UINT8_C(48), UINT8_C(48), UINT8_C(48), UINT8_C(48), UINT8_C(48), UINT8_C(48), UINT8_C(48), UINT8_C(77), UINT8_C(48), UINT8_C(48), UINT8_C(48), UINT8_C(48), UINT8_C(48), UINT8_C(48), UINT8_C(48), UINT8_C(48), UINT8_C(48), UINT8_C(48), UINT8_C(48), UINT8_C(48), UINT8_C(48), UINT8_C(48), UINT8_C(48), UINT8_C(48), UINT8_C(48), UINT8_C(48), UINT8_C(48), UINT8_C(48), UINT8_C(48), UINT8_C(48), UINT8_C(48), UINT8_C(48), UINT8_C(48), UINT8_C(48), UINT8_C(48), UINT8_C(48), UINT8_C(48), UINT8_C(48), UINT8_C(48), UINT8_C(48), UINT8_C(48), UINT8_C(48), UINT8_C(48), UINT8_C(48), UINT8_C(48), UINT8_C(48), UINT8_C(48), UINT8_C(111), UINT8_C(48), UINT8_C(48), UINT8_C(48), UINT8_C(48), UINT8_C(48), UINT8_C(48), UINT8_C(48), UINT8_C(48), UINT8_C(48), UINT8_C(48), UINT8_C(48), UINT8_C(48), UINT8_C(77), UINT8_C(48), UINT8_C(48), UINT8_C(48), UINT8_C(48), UINT8_C(48), UINT8_C(48), UINT8_C(48), UINT8_C(48), UINT8_C(48), UINT8_C(48), UINT8_C(48), UINT8_C(48), UINT8_C(48), UINT8_C(48), UINT8_C(48), UINT8_C(48), UINT8_C(48), UINT8_C(48), UINT8_C(48), UINT8_C(48), UINT8_C(48), UINT8_C(48), UINT8_C(48), UINT8_C(48), UINT8_C(48), UINT8_C(81), UINT8_C(48), UINT8_C(48), UINT8_C(48), UINT8_C(48), UINT8_C(48), UINT8_C(48), UINT8_C(48), UINT8_C(48), UINT8_C(48), UINT8_C(48), UINT8_C(48), UINT8_C(48), UINT8_C(48), UINT8_C(48), UINT8_C(48), UINT8_C(48), UINT8_C(48), UINT8_C(48), UINT8_C(48), UINT8_C(48), UINT8_C(48), UINT8_C(48), UINT8_C(48), UINT8_C(48), UINT8_C(48), UINT8_C(48), UINT8_C(48), UINT8_C(48), UINT8_C(48), UINT8_C(48), UINT8_C(48), UINT8_C(48), UINT8_C(48), UINT8_C(48), UINT8_C(48), UINT8_C(48), UINT8_C(48), UINT8_C(48), UINT8_C(71), UINT8_C(48), UINT8_C(48), UINT8_C(48), UINT8_C(48), UINT8_C(48), UINT8_C(48), UINT8_C(48), UINT8_C(48), UINT8_C(70), UINT8_C(70), UINT8_C(70), UINT8_C(70), UINT8_C(70), UINT8_C(70), UINT8_C(70), UINT8_C(70), UINT8_C(70), UINT8_C(70), UINT8_C(70), UINT8_C(70), UINT8_C(70), UINT8_C(48), UINT8_C(48), UINT8_C(48), UINT8_C(48), UINT8_C(48), UINT8_C(48), UINT8_C(48), UINT8_C(48), UINT8_C(48), UINT8_C(48), UINT8_C(48), UINT8_C(48), UINT8_C(48), UINT8_C(48), UINT8_C(48), UINT8_C(48), UINT8_C(48), UINT8_C(71), UINT8_C(48), UINT8_C(48), UINT8_C(70), UINT8_C(48), UINT8_C(48), UINT8_C(48), UINT8_C(48), UINT8_C(48), UINT8_C(70), UINT8_C(70), UINT8_C(70), UINT8_C(70), UINT8_C(70), UINT8_C(70), UINT8_C(70), UINT8_C(70), UINT8_C(70), UINT8_C(70), UINT8_C(70), UINT8_C(70), UINT8_C(70), UINT8_C(48), UINT8_C(48), UINT8_C(48), UINT8_C(48), UINT8_C(48), UINT8_C(48), UINT8_C(48), UINT8_C(48), UINT8_C(48), UINT8_C(48), UINT8_C(48), UINT8_C(48), UINT8_C(48), UINT8_C(48), UINT8_C(48), UINT8_C(48), UINT8_C(48), UINT8_C(68), UINT8_C(48), UINT8_C(48), UINT8_C(70), UINT8_C(48), UINT8_C(48), UINT8_C(48), UINT8_C(48), UINT8_C(48), UINT8_C(70), UINT8_C(70), UINT8_C(70), UINT8_C(70), UINT8_C(70), UINT8_C(70), UINT8_C(70), UINT8_C(70), UINT8_C(70), UINT8_C(70), UINT8_C(70), UINT8_C(70), UINT8_C(70), UINT8_C(48), UINT8_C(48), UINT8_C(48), UINT8_C(48), UINT8_C(48), UINT8_C(48), UINT8_C(69), UINT8_C(48), UINT8_C(48), UINT8_C(48), UINT8_C(48), UINT8_C(48), UINT8_C(48), UINT8_C(48), UINT8_C(48), UINT8_C(48), UINT8_C(48), UINT8_C(48), UINT8_C(48), UINT8_C(48), UINT8_C(48), UINT8_C(48), UINT8_C(48), UINT8_C(48), UINT8_C(48), UINT8_C(48), UINT8_C(70), UINT8_C(70), UINT8_C(70), UINT8_C(70), UINT8_C(70), UINT8_C(70), UINT8_C(70), UINT8_C(70), UINT8_C(70), UINT8_C(70), UINT8_C(70), UINT8_C(70), UINT8_C(70), UINT8_C(48), UINT8_C(48), UINT8_C(48), UINT8_C(48), UINT8_C(48), UINT8_C(48), UINT8_C(48), UINT8_C(48), UINT8_C(48), UINT8_C(48), UINT8_C(48), UINT8_C(48), UINT8_C(48), UINT8_C(48), UINT8_C(48), UINT8_C(48), UINT8_C(48), UINT8_C(48), UINT8_C(48), UINT8_C(48), UINT8_C(48), UINT8_C(48), UINT8_C(61), UINT8_C(48), UINT8_C(48), UINT8_C(48), UINT8_C(70), UINT8_C(70), UINT8_C(70), UINT8_C(70), UINT8_C(70), UINT8_C(70), UINT8_C(70), UINT8_C(70), UINT8_C(70), UINT8_C(70), UINT8_C(70), UINT8_C(70), UINT8_C(70), UINT8_C(48), UINT8_C(48), UINT8_C(48), UINT8_C(48), UINT8_C(48), UINT8_C(48), UINT8_C(48), UINT8_C(48), UINT8_C(48), UINT8_C(48), UINT8_C(48), UINT8_C(48), UINT8_C(48), UINT8_C(48), UINT8_C(48), UINT8_C(48), UINT8_C(48), UINT8_C(48), UINT8_C(48), UINT8_C(59), UINT8_C(48), UINT8_C(48), UINT8_C(48), UINT8_C(48), UINT8_C(48), UINT8_C(48), UINT8_C(48), UINT8_C(48), UINT8_C(48), UINT8_C(48), UINT8_C(48), UINT8_C(48), UINT8_C(48), UINT8_C(48), UINT8_C(48), UINT8_C(48), UINT8_C(48), UINT8_C(48), UINT8_C(48), UINT8_C(48), UINT8_C(48), UINT8_C(48), UINT8_C(48), UINT8_C(48), UINT8_C(48), UINT8_C(48), UINT8_C(48), UINT8_C(48), UINT8_C(48), UINT8_C(48), UINT8_C(48), UINT8_C(48), UINT8_C(48), UINT8_C(48), UINT8_C(48), UINT8_C(48), UINT8_C(48), UINT8_C(48), UINT8_C(61), UINT8_C(48), UINT8_C(48), UINT8_C(48), UINT8_C(48), UINT8_C(48), UINT8_C(48), UINT8_C(48), UINT8_C(48), UINT8_C(48), UINT8_C(48), UINT8_C(48), UINT8_C(48), UINT8_C(48), UINT8_C(48), UINT8_C(48), UINT8_C(48), UINT8_C(48), UINT8_C(48), UINT8_C(48), UINT8_C(48), UINT8_C(48), UINT8_C(48), UINT8_C(48), UINT8_C(48), UINT8_C(48), UINT8_C(48), UINT8_C(48), UINT8_C(48), UINT8_C(48), UINT8_C(48), UINT8_C(48), UINT8_C(48), UINT8_C(48), UINT8_C(48), UINT8_C(48), UINT8_C(48), UINT8_C(71), UINT8_C(48), UINT8_C(48), UINT8_C(48), UINT8_C(48), UINT8_C(48), UINT8_C(48), UINT8_C(48), UINT8_C(48), UINT8_C(48), UINT8_C(48), UINT8_C(48), UINT8_C(48), UINT8_C(48), UINT8_C(48), UINT8_C(70), UINT8_C(70), UINT8_C(70), UINT8_C(70), UINT8_C(70), UINT8_C(70), UINT8_C(70), UINT8_C(48), UINT8_C(48), UINT8_C(48), UINT8_C(48), UINT8_C(48), UINT8_C(48), UINT8_C(48), UINT8_C(48), UINT8_C(48), UINT8_C(48), UINT8_C(48), UINT8_C(48), UINT8_C(48), UINT8_C(48), UINT8_C(48), UINT8_C(48), UINT8_C(48), UINT8_C(71), UINT8_C(48), UINT8_C(48), UINT8_C(70), UINT8_C(48), UINT8_C(48), UINT8_C(48), UINT8_C(48), UINT8_C(48), UINT8_C(48), UINT8_C(48), UINT8_C(48), UINT8_C(48), UINT8_C(48), UINT8_C(48), UINT8_C(70), UINT8_C(70), UINT8_C(70), UINT8_C(70), UINT8_C(70), UINT8_C(70), UINT8_C(70), UINT8_C(48), UINT8_C(48), UINT8_C(48), UINT8_C(48), UINT8_C(48), UINT8_C(48), UINT8_C(48), UINT8_C(48), UINT8_C(48), UINT8_C(48), UINT8_C(48), UINT8_C(48), UINT8_C(48), UINT8_C(48), UINT8_C(48), UINT8_C(48), UINT8_C(48), UINT8_C(68), UINT8_C(48), UINT8_C(48), UINT8_C(70), UINT8_C(48), UINT8_C(48), UINT8_C(48), UINT8_C(48), UINT8_C(48), UINT8_C(48), UINT8_C(48), UINT8_C(48), UINT8_C(48), UINT8_C(48), UINT8_C(48), UINT8_C(70), UINT8_C(70), UINT8_C(70), UINT8_C(70), UINT8_C(70), UINT8_C(70), UINT8_C(70), UINT8_C(48), UINT8_C(48), UINT8_C(48), UINT8_C(48), UINT8_C(48), UINT8_C(48), UINT8_C(69), UINT8_C(48), UINT8_C(48), UINT8_C(48), UINT8_C(48), UINT8_C(48), UINT8_C(48), UINT8_C(48), UINT8_C(48), UINT8_C(48), UINT8_C(48), UINT8_C(48), UINT8_C(48), UINT8_C(48), UINT8_C(48), UINT8_C(48), UINT8_C(48), UINT8_C(48), UINT8_C(48), UINT8_C(48), UINT8_C(48), UINT8_C(48), UINT8_C(48), UINT8_C(48), UINT8_C(48), UINT8_C(48), UINT8_C(70), UINT8_C(70), UINT8_C(70), UINT8_C(70), UINT8_C(70), UINT8_C(70), UINT8_C(70), UINT8_C(48), UINT8_C(48), UINT8_C(48), UINT8_C(48), UINT8_C(48), UINT8_C(48), UINT8_C(48), UINT8_C(48), UINT8_C(48), UINT8_C(48), UINT8_C(48), UINT8_C(48), UINT8_C(48), UINT8_C(48), UINT8_C(48), UINT8_C(48), UINT8_C(48), UINT8_C(48), UINT8_C(48), UINT8_C(48), UINT8_C(48), UINT8_C(48), UINT8_C(61), UINT8_C(48), UINT8_C(48), UINT8_C(48), UINT8_C(48), UINT8_C(48), UINT8_C(48), UINT8_C(48), UINT8_C(48), UINT8_C(48), UINT8_C(70), UINT8_C(70), UINT8_C(70), UINT8_C(70), UINT8_C(70), UINT8_C(70), UINT8_C(70), UINT8_C(48), UINT8_C(48), UINT8_C(48) } };
-static const struct rt_array_uint8_1833 derive__derived__l4 = { { UINT8_C(48), UINT8_C(48), UINT8_C(48), UINT8_C(48), UINT8_C(48), UINT8_C(48), UINT8_C(48), UINT8_C(48), UINT8_C(48), UINT8_C(48), UINT8_C(48), UINT8_C(48), UINT8_C(48), UINT8_C(48), UINT8_C(48), UINT8_C(48), UINT8_C(48), UINT8_C(48), UINT8_C(48), UINT8_C(48), UINT8_C(48), UINT8_C(48), UINT8_C(48), UINT8_C(48), UINT8_C(48), UINT8_C(48), UINT8_C(48), UINT8_C(48), UINT8_C(48), UINT8_C(48), UINT8_C(48), UINT8_C(48), UINT8_C(48), UINT8_C(48), UINT8_C(48), UINT8_C(48), UINT8_C(48), UINT8_C(48), UINT8_C(48), UINT8_C(48), UINT8_C(48), UINT8_C(48), UINT8_C(48), UINT8_C(48), UINT8_C(48), UINT8_C(48), UINT8_C(48), UINT8_C(48), UINT8_C(48), UINT8_C(48), UINT8_C(48), UINT8_C(48), UINT8_C(48), UINT8_C(48), UINT8_C(48), UINT8_C(48), UINT8_C(48), UINT8_C(48), UINT8_C(48), UINT8_C(48), UINT8_C(48), UINT8_C(48), UINT8_C(48), UINT8_C(48), UINT8_C(48), UINT8_C(48), UINT8_C(48), UINT8_C(48), UINT8_C(48), UINT8_C(48), UINT8_C(48), UINT8_C(48), UINT8_C(48), UINT8_C(48), UINT8_C(48), UINT8_C(48), UINT8_C(48), UINT8_C(48), UINT8_C(48), UINT8_C(48), UINT8_C(48), UINT8_C(48), UINT8_C(48), UINT8_C(48), UINT8_C(48), UINT8_C(48), UINT8_C(48), UINT8_C(48), UINT8_C(48), UINT8_C(48), UINT8_C(48), UINT8_C(48), UINT8_C(48), UINT8_C(48), UINT8_C(48), UINT8_C(48), UINT8_C(48), UINT8_C(48), UINT8_C(48), UINT8_C(48), UINT8_C(48), UINT8_C(48), UINT8_C(48), UINT8_C(48), UINT8_C(48), UINT8_C(48), UINT8_C(48), UINT8_C(48), UINT8_C(48), UINT8_C(48), UINT8_C(48), UINT8_C(48), UINT8_C(48), UINT8_C(48), UINT8_C(48), UINT8_C(48), UINT8_C(48), UINT8_C(48), UINT8_C(48), UINT8_C(48), UINT8_C(48), UINT8_C(48), UINT8_C(48), UINT8_C(48), UINT8_C(48), UINT8_C(48), UINT8_C(48), UINT8_C(48), UINT8_C(48), UINT8_C(48), UINT8_C(48), UINT8_C(48), UINT8_C(48), UINT8_C(48), UINT8_C(48), UINT8_C(48), UINT8_C(48), UINT8_C(48), UINT8_C(48), UINT8_C(48), UINT8_C(48), UINT8_C(48), UINT8_C(48), UINT8_C(48), UINT8_C(48), UINT8_C(48), UINT8_C(48), UINT8_C(48), UINT8_C(48), UINT8_C(48), UINT8_C(48), UINT8_C(48), UINT8_C(48), UINT8_C(48), UINT8_C(48), UINT8_C(48), UINT8_C(48), UINT8_C(48), UINT8_C(48), UINT8_C(48), UINT8_C(48), UINT8_C(48), UINT8_C(48), UINT8_C(48), UINT8_C(48), UINT8_C(48), UINT8_C(48), UINT8_C(48), UINT8_C(48), UINT8_C(48), UINT8_C(48), UINT8_C(48), UINT8_C(48), UINT8_C(48), UINT8_C(48), UINT8_C(48), UINT8_C(48), UINT8_C(48), UINT8_C(48), UINT8_C(48), UINT8_C(48), UINT8_C(48), UINT8_C(48), UINT8_C(48), UINT8_C(48), UINT8_C(48), UINT8_C(48), UINT8_C(48), UINT8_C(48), UINT8_C(48), UINT8_C(48), UINT8_C(48), UINT8_C(48), UINT8_C(48), UINT8_C(48), UINT8_C(48), UINT8_C(48), UINT8_C(48), UINT8_C(48), UINT8_C(48), UINT8_C(48), UINT8_C(48), UINT8_C(48), UINT8_C(48), UINT8_C(48), UINT8_C(48), UINT8_C(48), UINT8_C(48), UINT8_C(48), UINT8_C(48), UINT8_C(48), UINT8_C(48), UINT8_C(48), UINT8_C(48), UINT8_C(48), UINT8_C(48), UINT8_C(48), UINT8_C(48), UINT8_C(48), UINT8_C(48), UINT8_C(48), UINT8_C(48), UINT8_C(48), UINT8_C(48), UINT8_C(48), UINT8_C(48), UINT8_C(48), UINT8_C(48), UINT8_C(48), UINT8_C(48), UINT8_C(48), UINT8_C(48), UINT8_C(48), UINT8_C(48), UINT8_C(48), UINT8_C(48), UINT8_C(48), UINT8_C(48), UINT8_C(48), UINT8_C(48), UINT8_C(48), UINT8_C(48), UINT8_C(48), UINT8_C(48), UINT8_C(48), UINT8_C(48), UINT8_C(48), UINT8_C(48), UINT8_C(48), UINT8_C(48), UINT8_C(48), UINT8_C(48), UINT8_C(48), UINT8_C(48), UINT8_C(48), UINT8_C(48), UINT8_C(48), UINT8_C(48), UINT8_C(48), UINT8_C(48), UINT8_C(48), UINT8_C(48), UINT8_C(48), UINT8_C(48), UINT8_C(48), UINT8_C(48), UINT8_C(48), UINT8_C(48), UINT8_C(48), UINT8_C(48), UINT8_C(48), UINT8_C(48), UINT8_C(48), UINT8_C(48), UINT8_C(48), UINT8_C(48), UINT8_C(48), UINT8_C(48), UINT8_C(48), UINT8_C(48), UINT8_C(48), UINT8_C(48), UINT8_C(48), UINT8_C(48), UINT8_C(48), UINT8_C(48), UINT8_C(48), UINT8_C(48), UINT8_C(48), UINT8_C(48), UINT8_C(48), UINT8_C(48), UINT8_C(48), UINT8_C(48), UINT8_C(48), UINT8_C(48), UINT8_C(48), UINT8_C(48), UINT8_C(48), UINT8_C(48), UINT8_C(48), UINT8_C(48), UINT8_C(48), UINT8_C(48), UINT8_C(48), UINT8_C(48), UINT8_C(48), UINT8_C(48), UINT8_C(48), UINT8_C(48), UINT8_C(48), UINT8_C(48), UINT8_C(48), UINT8_C(48), UINT8_C(48), UINT8_C(48), UINT8_C(48), UINT8_C(48), UINT8_C(48), UINT8_C(48), UINT8_C(48), UINT8_C(48), UINT8_C(48), UINT8_C(48), UINT8_C(48), UINT8_C(48), UINT8_C(48), UINT8_C(48), UINT8_C(48), UINT8_C(48), UINT8_C(48), UINT8_C(48), UINT8_C(48), UINT8_C(48), UINT8_C(48), UINT8_C(48), UINT8_C(48), UINT8_C(48), UINT8_C(48), UINT8_C(48), UINT8_C(48), UINT8_C(48), UINT8_C(48), UINT8_C(48), UINT8_C(48), UINT8_C(48), UINT8_C(48), UINT8_C(48), UINT8_C(48), UINT8_C(48), UINT8_C(48), UINT8_C(48), UINT8_C(48), UINT8_C(48), UINT8_C(48), UINT8_C(48), UINT8_C(48), UINT8_C(48), UINT8_C(48), UINT8_C(48), UINT8_C(48), UINT8_C(48), UINT8_C(48), UINT8_C(48), UINT8_C(48), UINT8_C(48), UINT8_C(48), UINT8_C(48), UINT8_C(48), UINT8_C(48), UINT8_C(48), UINT8_C(48), UINT8_C(48), UINT8_C(48), UINT8_C(48), UINT8_C(48), UINT8_C(48), UINT8_C(48), UINT8_C(48), UINT8_C(48), UINT8_C(48), UINT8_C(48), UINT8_C(48), UINT8_C(48), UINT8_C(48), UINT8_C(48), UINT8_C(48), UINT8_C(48), UINT8_C(48), UINT8_C(48), UINT8_C(48), UINT8_C(48), UINT8_C(48), UINT8_C(48), UINT8_C(48), UINT8_C(48), UINT8_C(48), UINT8_C(48), UINT8_C(48), UINT8_C(48), UINT8_C(48), UINT8_C(48), UINT8_C(48), UINT8_C(48), UINT8_C(48), UINT8_C(48), UINT8_C(48), UINT8_C(48), UINT8_C(48), UINT8_C(48), UINT8_C(48), UINT8_C(48), UINT8_C(48), UINT8_C(48), UINT8_C(48), UINT8_C(48), UINT8_C(48), UINT8_C(48), UINT8_C(48), UINT8_C(48), UINT8_C(48), UINT8_C(48), UINT8_C(48), UINT8_C(48), UINT8_C(48), UINT8_C(48), UINT8_C(48), UINT8_C(48), UINT8_C(48), UINT8_C(48), UINT8_C(48), UINT8_C(48), UINT8_C(48), UINT8_C(48), UINT8_C(48), UINT8_C(48), UINT8_C(48), UINT8_C(48), UINT8_C(48), UINT8_C(48), UINT8_C(48), UINT8_C(48), UINT8_C(48), UINT8_C(48), UINT8_C(48), UINT8_C(48), UINT8_C(48), UINT8_C(48), UINT8_C(48), UINT8_C(48), UINT8_C(48), UINT8_C(48), UINT8_C(48), UINT8_C(48), UINT8_C(48), UINT8_C(48), UINT8_C(48), UINT8_C(48), UINT8_C(48), UINT8_C(48), UINT8_C(48), UINT8_C(48), UINT8_C(48), UINT8_C(48), UINT8_C(48), UINT8_C(48), UINT8_C(48), UINT8_C(48), UINT8_C(48), UINT8_C(48), UINT8_C(48), UINT8_C(48), UINT8_C(48), UINT8_C(48), UINT8_C(48), UINT8_C(48), UINT8_C(48), UINT8_C(48), UINT8_C(48), UINT8_C(48), UINT8_C(48), UINT8_C(48), UINT8_C(48), UINT8_C(88), UINT8_C(48), UINT8_C(48), UINT8_C(48), UINT8_C(48), UINT8_C(48), UINT8_C(48), UINT8_C(48), UINT8_C(48), UINT8_C(48), UINT8_C(48), UINT8_C(48), UINT8_C(48), UINT8_C(48), UINT8_C(48), UINT8_C(48), UINT8_C(48), UINT8_C(48), UINT8_C(48), UINT8_C(48), UINT8_C(48), UINT8_C(48), UINT8_C(48), UINT8_C(48), UINT8_C(48), UINT8_C(48), UINT8_C(86), UINT8_C(48), UINT8_C(48), UINT8_C(48), UINT8_C(48), UINT8_C(48), UINT8_C(48), UINT8_C(48), UINT8_C(48), UINT8_C(48), UINT8_C(48), UINT8_C(48), UINT8_C(48), UINT8_C(48), UINT8_C(48), UINT8_C(48), UINT8_C(48), UINT8_C(48), UINT8_C(48), UINT8_C(48), UINT8_C(48), UINT8_C(48), UINT8_C(48), UINT8_C(48), UINT8_C(48), UINT8_C(48), UINT8_C(48), UINT8_C(48), UINT8_C(48), UINT8_C(48), UINT8_C(48), UINT8_C(48), UINT8_C(48), UINT8_C(48), UINT8_C(48), UINT8_C(48), UINT8_C(48), UINT8_C(48), UINT8_C(48), UINT8_C(48), UINT8_C(48), UINT8_C(48), UINT8_C(48), UINT8_C(48), UINT8_C(48), UINT8_C(48), UINT8_C(48), UINT8_C(48), UINT8_C(48), UINT8_C(48), UINT8_C(85), UINT8_C(48), UINT8_C(48), UINT8_C(48), UINT8_C(48), UINT8_C(48), UINT8_C(48), UINT8_C(87), UINT8_C(48), UINT8_C(48), UINT8_C(48), UINT8_C(48), UINT8_C(48), UINT8_C(48), UINT8_C(48), UINT8_C(48), UINT8_C(48), UINT8_C(48), UINT8_C(48), UINT8_C(48), UINT8_C(48), UINT8_C(48), UINT8_C(48), UINT8_C(48), UINT8_C(48), UINT8_C(48), UINT8_C(48), UINT8_C(48), UINT8_C(48), UINT8_C(48), UINT8_C(48), UINT8_C(48), UINT8_C(48), UINT8_C(48), UINT8_C(48), UINT8_C(48), UINT8_C(48), UINT8_C(48), UINT8_C(48), UINT8_C(48), UINT8_C(48), UINT8_C(48), UINT8_C(48), UINT8_C(48), UINT8_C(48), UINT8_C(48), UINT8_C(48), UINT8_C(48), UINT8_C(48), UINT8_C(48), UINT8_C(48), UINT8_C(48), UINT8_C(48), UINT8_C(48), UINT8_C(48), UINT8_C(48), UINT8_C(48), UINT8_C(48), UINT8_C(48), UINT8_C(48), UINT8_C(48), UINT8_C(48), UINT8_C(48), UINT8_C(48), UINT8_C(48), UINT8_C(48), UINT8_C(48), UINT8_C(48), UINT8_C(48), UINT8_C(48), UINT8_C(48), UINT8_C(48), UINT8_C(48), UINT8_C(48), UINT8_C(48), UINT8_C(48), UINT8_C(48), UINT8_C(48), UINT8_C(48), UINT8_C(48), UINT8_C(48), UINT8_C(48), UINT8_C(48), UINT8_C(48), UINT8_C(48), UINT8_C(87), UINT8_C(48), UINT8_C(48), UINT8_C(48), UINT8_C(48), UINT8_C(48), UINT8_C(48), UINT8_C(48), UINT8_C(48), UINT8_C(48), UINT8_C(48), UINT8_C(48), UINT8_C(48), UINT8_C(48), UINT8_C(48), UINT8_C(48), UINT8_C(48), UINT8_C(48), UINT8_C(48), UINT8_C(48), UINT8_C(48), UINT8_C(48), UINT8_C(48), UINT8_C(48), UINT8_C(48), UINT8_C(48), UINT8_C(48), UINT8_C(48), UINT8_C(48), UINT8_C(48), UINT8_C(48), UINT8_C(48), UINT8_C(48), UINT8_C(48), UINT8_C(48), UINT8_C(48), UINT8_C(48), UINT8_C(48), UINT8_C(48), UINT8_C(48), UINT8_C(48), UINT8_C(48), UINT8_C(48), UINT8_C(48), UINT8_C(48), UINT8_C(48), UINT8_C(48), UINT8_C(48), UINT8_C(48), UINT8_C(48), UINT8_C(48), UINT8_C(48), UINT8_C(48), UINT8_C(48), UINT8_C(48), UINT8_C(48), UINT8_C(48), UINT8_C(48), UINT8_C(48), UINT8_C(48), UINT8_C(48), UINT8_C(48), UINT8_C(48), UINT8_C(48), UINT8_C(48), UINT8_C(48), UINT8_C(48), UINT8_C(48), UINT8_C(48), UINT8_C(48), UINT8_C(48), UINT8_C(48), UINT8_C(48), UINT8_C(48), UINT8_C(48), UINT8_C(48), UINT8_C(48), UINT8_C(48), UINT8_C(87), UINT8_C(48), UINT8_C(48), UINT8_C(48), UINT8_C(48), UINT8_C(48), UINT8_C(48), UINT8_C(48), UINT8_C(48), UINT8_C(48), UINT8_C(48), UINT8_C(48), UINT8_C(48), UINT8_C(48), UINT8_C(48), UINT8_C(48), UINT8_C(48), UINT8_C(48), UINT8_C(48), UINT8_C(48), UINT8_C(48), UINT8_C(48), UINT8_C(48), UINT8_C(48), UINT8_C(48), UINT8_C(48), UINT8_C(48), UINT8_C(48), UINT8_C(48), UINT8_C(48), UINT8_C(48), UINT8_C(48), UINT8_C(83), UINT8_C(48), UINT8_C(48), UINT8_C(48), UINT8_C(48), UINT8_C(48), UINT8_C(48), UINT8_C(48), UINT8_C(48), UINT8_C(48), UINT8_C(48), UINT8_C(48), UINT8_C(48), UINT8_C(48), UINT8_C(48), UINT8_C(48), UINT8_C(48), UINT8_C(48), UINT8_C(48), UINT8_C(48), UINT8_C(48), UINT8_C(48), UINT8_C(48), UINT8_C(48), UINT8_C(48), UINT8_C(48), UINT8_C(48), UINT8_C(48), UINT8_C(48), UINT8_C(48), UINT8_C(48), UINT8_C(48), UINT8_C(48), UINT8_C(48), UINT8_C(48), UINT8_C(48), UINT8_C(48), UINT8_C(48), UINT8_C(48), UINT8_C(48), UINT8_C(48), UINT8_C(48), UINT8_C(48), UINT8_C(48), UINT8_C(48), UINT8_C(48), UINT8_C(48), UINT8_C(48), UINT8_C(48), UINT8_C(48), UINT8_C(48), UINT8_C(48), UINT8_C(48), UINT8_C(48), UINT8_C(48), UINT8_C(48), UINT8_C(48), UINT8_C(48), UINT8_C(48), UINT8_C(48), UINT8_C(48), UINT8_C(48), UINT8_C(48), UINT8_C(48), UINT8_C(48), UINT8_C(48), UINT8_C(48), UINT8_C(48), UINT8_C(48), UINT8_C(48), UINT8_C(48), UINT8_C(48), UINT8_C(48), UINT8_C(48), UINT8_C(48), UINT8_C(48), UINT8_C(48), UINT8_C(48), UINT8_C(48), UINT8_C(48), UINT8_C(89), UINT8_C(48), UINT8_C(48), UINT8_C(48), UINT8_C(48), UINT8_C(48), UINT8_C(48), UINT8_C(48), UINT8_C(48), UINT8_C(48), UINT8_C(48), UINT8_C(48), UINT8_C(48), UINT8_C(48), UINT8_C(48), UINT8_C(48), UINT8_C(48), UINT8_C(48), UINT8_C(48), UINT8_C(48), UINT8_C(48), UINT8_C(48), UINT8_C(48), UINT8_C(48), UINT8_C(48), UINT8_C(48), UINT8_C(48), UINT8_C(48), UINT8_C(48), UINT8_C(48), UINT8_C(48), UINT8_C(48), UINT8_C(48), UINT8_C(48), UINT8_C(48), UINT8_C(48), UINT8_C(48), UINT8_C(83), UINT8_C(48), UINT8_C(48), UINT8_C(48), UINT8_C(48), UINT8_C(48), UINT8_C(48), UINT8_C(48), UINT8_C(48), UINT8_C(48), UINT8_C(48), UINT8_C(48), UINT8_C(48), UINT8_C(48), UINT8_C(48), UINT8_C(48), UINT8_C(48), UINT8_C(48), UINT8_C(48), UINT8_C(48), UINT8_C(48), UINT8_C(48), UINT8_C(48), UINT8_C(48), UINT8_C(48), UINT8_C(48), UINT8_C(48), UINT8_C(48), UINT8_C(48), UINT8_C(48), UINT8_C(48), UINT8_C(48), UINT8_C(48), UINT8_C(48), UINT8_C(48), UINT8_C(48), UINT8_C(48), UINT8_C(48), UINT8_C(48), UINT8_C(48), UINT8_C(48), UINT8_C(48), UINT8_C(48), UINT8_C(48), UINT8_C(48), UINT8_C(48), UINT8_C(48), UINT8_C(48), UINT8_C(48), UINT8_C(48), UINT8_C(48), UINT8_C(48), UINT8_C(48), UINT8_C(48), UINT8_C(48), UINT8_C(48), UINT8_C(48), UINT8_C(48), UINT8_C(48), UINT8_C(48), UINT8_C(48), UINT8_C(48), UINT8_C(48), UINT8_C(48), UINT8_C(48), UINT8_C(48), UINT8_C(48), UINT8_C(48), UINT8_C(48), UINT8_C(48), UINT8_C(48), UINT8_C(48), UINT8_C(48), UINT8_C(48), UINT8_C(48), UINT8_C(48), UINT8_C(48), UINT8_C(48), UINT8_C(84), UINT8_C(48), UINT8_C(48), UINT8_C(48), UINT8_C(48), UINT8_C(48), UINT8_C(48), UINT8_C(48), UINT8_C(48), UINT8_C(48), UINT8_C(48), UINT8_C(48), UINT8_C(48), UINT8_C(48), UINT8_C(48), UINT8_C(48), UINT8_C(48), UINT8_C(48), UINT8_C(48), UINT8_C(48), UINT8_C(48), UINT8_C(48), UINT8_C(48), UINT8_C(48), UINT8_C(48), UINT8_C(48), UINT8_C(48), UINT8_C(48), UINT8_C(48), UINT8_C(48), UINT8_C(48), UINT8_C(48), UINT8_C(48), UINT8_C(48), UINT8_C(48), UINT8_C(48), UINT8_C(48), UINT8_C(48), UINT8_C(48), UINT8_C(48), UINT8_C(48), UINT8_C(48), UINT8_C(48), UINT8_C(48), UINT8_C(48), UINT8_C(48), UINT8_C(48), UINT8_C(48), UINT8_C(48), UINT8_C(48), UINT8_C(48), UINT8_C(48), UINT8_C(48), UINT8_C(48), UINT8_C(48), UINT8_C(48), UINT8_C(48), UINT8_C(48), UINT8_C(48), UINT8_C(48), UINT8_C(48), UINT8_C(48), UINT8_C(48), UINT8_C(48), UINT8_C(48), UINT8_C(48), UINT8_C(48), UINT8_C(48), UINT8_C(48), UINT8_C(48), UINT8_C(48), UINT8_C(48), UINT8_C(48), UINT8_C(48), UINT8_C(48), UINT8_C(48), UINT8_C(48), UINT8_C(48), UINT8_C(48), UINT8_C(48), UINT8_C(48), UINT8_C(48), UINT8_C(48), UINT8_C(48), UINT8_C(48), UINT8_C(48), UINT8_C(48), UINT8_C(48), UINT8_C(48), UINT8_C(48), UINT8_C(48), UINT8_C(48), UINT8_C(48), UINT8_C(48), UINT8_C(48), UINT8_C(48), UINT8_C(48), UINT8_C(48), UINT8_C(48), UINT8_C(48), UINT8_C(48), UINT8_C(48), UINT8_C(48), UINT8_C(48), UINT8_C(48), UINT8_C(48), UINT8_C(48), UINT8_C(48), UINT8_C(48), UINT8_C(48), UINT8_C(48), UINT8_C(48), UINT8_C(48), UINT8_C(48), UINT8_C(48), UINT8_C(48), UINT8_C(48), UINT8_C(83), UINT8_C(48), UINT8_C(48), UINT8_C(48), UINT8_C(48), UINT8_C(48), UINT8_C(48), UINT8_C(48), UINT8_C(48), UINT8_C(48), UINT8_C(48), UINT8_C(48), UINT8_C(48), UINT8_C(48), UINT8_C(48), UINT8_C(48), UINT8_C(48), UINT8_C(48), UINT8_C(48), UINT8_C(48), UINT8_C(48), UINT8_C(48), UINT8_C(48), UINT8_C(48), UINT8_C(48), UINT8_C(48), UINT8_C(48), UINT8_C(48), UINT8_C(48), UINT8_C(48), UINT8_C(48), UINT8_C(48), UINT8_C(48), UINT8_C(48), UINT8_C(48), UINT8_C(48), UINT8_C(48), UINT8_C(48), UINT8_C(48), UINT8_C(48), UINT8_C(48), UINT8_C(48), UINT8_C(48), UINT8_C(48), UINT8_C(48), UINT8_C(48), UINT8_C(48), UINT8_C(48), UINT8_C(48), UINT8_C(48), UINT8_C(48), UINT8_C(48), UINT8_C(48), UINT8_C(48), UINT8_C(48), UINT8_C(48), UINT8_C(48), UINT8_C(48), UINT8_C(48), UINT8_C(48), UINT8_C(48), UINT8_C(48), UINT8_C(48), UINT8_C(48), UINT8_C(48), UINT8_C(48), UINT8_C(48), UINT8_C(48), UINT8_C(48), UINT8_C(48), UINT8_C(48), UINT8_C(48), UINT8_C(48), UINT8_C(48), UINT8_C(48), UINT8_C(48), UINT8_C(48), UINT8_C(48), UINT8_C(48), UINT8_C(48), UINT8_C(48), UINT8_C(48), UINT8_C(48), UINT8_C(48), UINT8_C(48), UINT8_C(48), UINT8_C(48), UINT8_C(48), UINT8_C(48), UINT8_C(48), UINT8_C(48), UINT8_C(48), UINT8_C(48), UINT8_C(48), UINT8_C(48), UINT8_C(48), UINT8_C(48), UINT8_C(48), UINT8_C(48), UINT8_C(48), UINT8_C(48), UINT8_C(48), UINT8_C(48), UINT8_C(48), UINT8_C(48), UINT8_C(48), UINT8_C(48), UINT8_C(48), UINT8_C(48), UINT8_C(48), UINT8_C(48), UINT8_C(48), UINT8_C(48), UINT8_C(48), UINT8_C(48), UINT8_C(48), UINT8_C(48), UINT8_C(48), UINT8_C(48), UINT8_C(48), UINT8_C(48), UINT8_C(48), UINT8_C(48), UINT8_C(48), UINT8_C(48), UINT8_C(48), UINT8_C(48), UINT8_C(48), UINT8_C(48), UINT8_C(48), UINT8_C(48), UINT8_C(48), UINT8_C(48), UINT8_C(48), UINT8_C(48), UINT8_C(48), UINT8_C(48), UINT8_C(48), UINT8_C(48), UINT8_C(48), UINT8_C(48), UINT8_C(48), UINT8_C(48), UINT8_C(48), UINT8_C(48), UINT8_C(48), UINT8_C(48), UINT8_C(48), UINT8_C(48), UINT8_C(48), UINT8_C(48), UINT8_C(48), UINT8_C(48), UINT8_C(48), UINT8_C(48), UINT8_C(48), UINT8_C(48), UINT8_C(48), UINT8_C(48), UINT8_C(48), UINT8_C(48), UINT8_C(48), UINT8_C(48), UINT8_C(48), UINT8_C(48), UINT8_C(48), UINT8_C(48), UINT8_C(48), UINT8_C(48), UINT8_C(48), UINT8_C(48), UINT8_C(48), UINT8_C(48), UINT8_C(48), UINT8_C(48), UINT8_C(48), UINT8_C(48), UINT8_C(48), UINT8_C(48), UINT8_C(48), UINT8_C(48), UINT8_C(48), UINT8_C(48), UINT8_C(48), UINT8_C(48), UINT8_C(48), UINT8_C(48), UINT8_C(48), UINT8_C(48), UINT8_C(48), UINT8_C(48), UINT8_C(48), UINT8_C(48), UINT8_C(48), UINT8_C(48), UINT8_C(82), UINT8_C(48), UINT8_C(48), UINT8_C(48), UINT8_C(48), UINT8_C(48), UINT8_C(48), UINT8_C(48), UINT8_C(48), UINT8_C(48), UINT8_C(48), UINT8_C(48), UINT8_C(48), UINT8_C(48), UINT8_C(48), UINT8_C(48), UINT8_C(48), UINT8_C(48), UINT8_C(48), UINT8_C(48), UINT8_C(48), UINT8_C(48), UINT8_C(48), UINT8_C(48), UINT8_C(48), UINT8_C(48), UINT8_C(48), UINT8_C(48), UINT8_C(48), UINT8_C(48), UINT8_C(48), UINT8_C(48), UINT8_C(48), UINT8_C(48), UINT8_C(48), UINT8_C(48), UINT8_C(48), UINT8_C(48), UINT8_C(48), UINT8_C(48), UINT8_C(48), UINT8_C(48), UINT8_C(48), UINT8_C(48), UINT8_C(48), UINT8_C(48), UINT8_C(48), UINT8_C(48), UINT8_C(48), UINT8_C(48), UINT8_C(48), UINT8_C(48), UINT8_C(48), UINT8_C(48), UINT8_C(48), UINT8_C(48), UINT8_C(48), UINT8_C(48), UINT8_C(48), UINT8_C(48), UINT8_C(48), UINT8_C(48), UINT8_C(48), UINT8_C(48), UINT8_C(48), UINT8_C(48), UINT8_C(48), UINT8_C(48), UINT8_C(48), UINT8_C(48), UINT8_C(48), UINT8_C(48), UINT8_C(48), UINT8_C(48), UINT8_C(48), UINT8_C(48), UINT8_C(48), UINT8_C(48), UINT8_C(48), UINT8_C(48), UINT8_C(48), UINT8_C(48), UINT8_C(48), UINT8_C(48), UINT8_C(48), UINT8_C(48), UINT8_C(48), UINT8_C(48), UINT8_C(48), UINT8_C(48), UINT8_C(48), UINT8_C(48), UINT8_C(48), UINT8_C(48), UINT8_C(48), UINT8_C(48), UINT8_C(48), UINT8_C(48), UINT8_C(48), UINT8_C(48), UINT8_C(48), UINT8_C(48), UINT8_C(48), UINT8_C(48), UINT8_C(48), UINT8_C(48), UINT8_C(48), UINT8_C(48), UINT8_C(48), UINT8_C(48), UINT8_C(48), UINT8_C(48), UINT8_C(48), UINT8_C(48), UINT8_C(48), UINT8_C(48), UINT8_C(48), UINT8_C(48), UINT8_C(48), UINT8_C(48), UINT8_C(48), UINT8_C(48), UINT8_C(48), UINT8_C(48), UINT8_C(48), UINT8_C(48), UINT8_C(48), UINT8_C(90), UINT8_C(90), UINT8_C(90), UINT8_C(90), UINT8_C(90), UINT8_C(90), UINT8_C(83), UINT8_C(83), UINT8_C(83), UINT8_C(83), UINT8_C(83), UINT8_C(83), UINT8_C(83), UINT8_C(48), UINT8_C(48), UINT8_C(48), UINT8_C(48), UINT8_C(48), UINT8_C(48), UINT8_C(48), UINT8_C(48), UINT8_C(48), UINT8_C(48), UINT8_C(48), UINT8_C(48), UINT8_C(48), UINT8_C(48), UINT8_C(48), UINT8_C(48), UINT8_C(48), UINT8_C(48), UINT8_C(48), UINT8_C(48), UINT8_C(84), UINT8_C(48), UINT8_C(48), UINT8_C(48), UINT8_C(48), UINT8_C(48), UINT8_C(91), UINT8_C(91), UINT8_C(91), UINT8_C(91), UINT8_C(91), UINT8_C(91), UINT8_C(84), UINT8_C(84), UINT8_C(84), UINT8_C(84), UINT8_C(84), UINT8_C(84), UINT8_C(84), UINT8_C(48), UINT8_C(48), UINT8_C(48), UINT8_C(48), UINT8_C(48), UINT8_C(48), UINT8_C(48), UINT8_C(48), UINT8_C(48), UINT8_C(48), UINT8_C(48), UINT8_C(48), UINT8_C(48), UINT8_C(48), UINT8_C(48), UINT8_C(48), UINT8_C(48), UINT8_C(48), UINT8_C(48), UINT8_C(48), UINT8_C(85), UINT8_C(48), UINT8_C(48), UINT8_C(48), UINT8_C(48), UINT8_C(48), UINT8_C(92), UINT8_C(92), UINT8_C(92), UINT8_C(92), UINT8_C(92), UINT8_C(92), UINT8_C(85), UINT8_C(85), UINT8_C(85), UINT8_C(85), UINT8_C(85), UINT8_C(85), UINT8_C(85), UINT8_C(48), UINT8_C(48), UINT8_C(48), UINT8_C(48), UINT8_C(48), UINT8_C(48), UINT8_C(48), UINT8_C(48), UINT8_C(48), UINT8_C(48), UINT8_C(48), UINT8_C(48), UINT8_C(48), UINT8_C(48), UINT8_C(48), UINT8_C(48), UINT8_C(48), UINT8_C(48), UINT8_C(48), UINT8_C(48), UINT8_C(48), UINT8_C(48), UINT8_C(48), UINT8_C(48), UINT8_C(48), UINT8_C(48), UINT8_C(93), UINT8_C(93), UINT8_C(93), UINT8_C(93), UINT8_C(93), UINT8_C(93), UINT8_C(86), UINT8_C(86), UINT8_C(86), UINT8_C(86), UINT8_C(86), UINT8_C(86), UINT8_C(86), UINT8_C(48), UINT8_C(48), UINT8_C(48), UINT8_C(48), UINT8_C(48), UINT8_C(48), UINT8_C(48), UINT8_C(48), UINT8_C(48), UINT8_C(48), UINT8_C(48), UINT8_C(48), UINT8_C(48), UINT8_C(48), UINT8_C(48), UINT8_C(48), UINT8_C(48), UINT8_C(48), UINT8_C(48), UINT8_C(48), UINT8_C(48), UINT8_C(48), UINT8_C(48), UINT8_C(48), UINT8_C(48), UINT8_C(48), UINT8_C(94), UINT8_C(94), UINT8_C(94), UINT8_C(94), UINT8_C(94), UINT8_C(94), UINT8_C(87), UINT8_C(87), UINT8_C(87), UINT8_C(87), UINT8_C(87), UINT8_C(87), UINT8_C(87), UINT8_C(48), UINT8_C(48), UINT8_C(48), UINT8_C(48), UINT8_C(48), UINT8_C(48), UINT8_C(48), UINT8_C(48), UINT8_C(48), UINT8_C(48), UINT8_C(48), UINT8_C(48), UINT8_C(48), UINT8_C(48), UINT8_C(48), UINT8_C(48), UINT8_C(48), UINT8_C(48), UINT8_C(48), UINT8_C(48), UINT8_C(48), UINT8_C(48), UINT8_C(48), UINT8_C(48), UINT8_C(48), UINT8_C(48), UINT8_C(48), UINT8_C(48), UINT8_C(48), UINT8_C(48), UINT8_C(48), UINT8_C(48), UINT8_C(48), UINT8_C(48), UINT8_C(48), UINT8_C(48), UINT8_C(48), UINT8_C(48), UINT8_C(48), UINT8_C(48), UINT8_C(48), UINT8_C(48), UINT8_C(48), UINT8_C(48), UINT8_C(48), UINT8_C(48), UINT8_C(48), UINT8_C(48), UINT8_C(48), UINT8_C(48), UINT8_C(48), UINT8_C(48), UINT8_C(48), UINT8_C(48), UINT8_C(48), UINT8_C(48), UINT8_C(48), UINT8_C(48), UINT8_C(48), UINT8_C(48), UINT8_C(48), UINT8_C(48), UINT8_C(48), UINT8_C(48), UINT8_C(48), UINT8_C(48), UINT8_C(48), UINT8_C(48), UINT8_C(48), UINT8_C(48), UINT8_C(48), UINT8_C(48), UINT8_C(48), UINT8_C(48), UINT8_C(48), UINT8_C(48), UINT8_C(48), UINT8_C(48), UINT8_C(48), UINT8_C(48), UINT8_C(48), UINT8_C(48), UINT8_C(48), UINT8_C(48), UINT8_C(48), UINT8_C(48), UINT8_C(48), UINT8_C(48), UINT8_C(48), UINT8_C(48), UINT8_C(48), UINT8_C(48), UINT8_C(48), UINT8_C(48), UINT8_C(48), UINT8_C(48), UINT8_C(48), UINT8_C(48), UINT8_C(48), UINT8_C(48), UINT8_C(48), UINT8_C(48), UINT8_C(48), UINT8_C(48), UINT8_C(48), UINT8_C(48), UINT8_C(48), UINT8_C(48), UINT8_C(48), UINT8_C(48), UINT8_C(90), UINT8_C(90), UINT8_C(90), UINT8_C(90), UINT8_C(90), UINT8_C(83), UINT8_C(83), UINT8_C(48), UINT8_C(48), UINT8_C(48), UINT8_C(48), UINT8_C(48), UINT8_C(48), UINT8_C(48), UINT8_C(48), UINT8_C(48), UINT8_C(48), UINT8_C(48), UINT8_C(48), UINT8_C(48), UINT8_C(48), UINT8_C(48), UINT8_C(48), UINT8_C(48), UINT8_C(48), UINT8_C(48), UINT8_C(48), UINT8_C(84), UINT8_C(48), UINT8_C(48), UINT8_C(48), UINT8_C(48), UINT8_C(48), UINT8_C(48), UINT8_C(48), UINT8_C(48), UINT8_C(48), UINT8_C(48), UINT8_C(48), UINT8_C(91), UINT8_C(91), UINT8_C(91), UINT8_C(91), UINT8_C(91), UINT8_C(84), UINT8_C(84), UINT8_C(48), UINT8_C(48), UINT8_C(48), UINT8_C(48), UINT8_C(48), UINT8_C(48), UINT8_C(48), UINT8_C(48), UINT8_C(48), UINT8_C(48), UINT8_C(48), UINT8_C(48), UINT8_C(48), UINT8_C(48), UINT8_C(48), UINT8_C(48), UINT8_C(48), UINT8_C(48), UINT8_C(48), UINT8_C(48), UINT8_C(85), UINT8_C(48), UINT8_C(48), UINT8_C(48), UINT8_C(48), UINT8_C(48), UINT8_C(48), UINT8_C(48), UINT8_C(48), UINT8_C(48), UINT8_C(48), UINT8_C(48), UINT8_C(92), UINT8_C(92), UINT8_C(92), UINT8_C(92), UINT8_C(92), UINT8_C(85), UINT8_C(85), UINT8_C(48), UINT8_C(48), UINT8_C(48), UINT8_C(48), UINT8_C(48), UINT8_C(48), UINT8_C(48), UINT8_C(48), UINT8_C(48), UINT8_C(48), UINT8_C(48), UINT8_C(48), UINT8_C(48), UINT8_C(48), UINT8_C(48), UINT8_C(48), UINT8_C(48), UINT8_C(48), UINT8_C(48), UINT8_C(48), UINT8_C(48), UINT8_C(48), UINT8_C(48), UINT8_C(48), UINT8_C(48), UINT8_C(48), UINT8_C(48), UINT8_C(48), UINT8_C(48), UINT8_C(48), UINT8_C(48), UINT8_C(48), UINT8_C(93), UINT8_C(93), UINT8_C(93), UINT8_C(93), UINT8_C(93), UINT8_C(86), UINT8_C(86), UINT8_C(48), UINT8_C(48), UINT8_C(48), UINT8_C(48), UINT8_C(48), UINT8_C(48), UINT8_C(48), UINT8_C(48), UINT8_C(48), UINT8_C(48), UINT8_C(48), UINT8_C(48), UINT8_C(48), UINT8_C(48), UINT8_C(48), UINT8_C(48), UINT8_C(48), UINT8_C(48), UINT8_C(48), UINT8_C(48), UINT8_C(48), UINT8_C(48), UINT8_C(48), UINT8_C(48), UINT8_C(48), UINT8_C(48), UINT8_C(48), UINT8_C(48), UINT8_C(48), UINT8_C(48), UINT8_C(48), UINT8_C(48), UINT8_C(94), UINT8_C(94), UINT8_C(94), UINT8_C(94), UINT8_C(94), UINT8_C(87), UINT8_C(87), UINT8_C(48), UINT8_C(48), UINT8_C(48) } };
-static const struct rt_array_uint8_1833 derive__derived__l5 = { { UINT8_C(95), UINT8_C(95), UINT8_C(95), UINT8_C(95), UINT8_C(95), UINT8_C(95), UINT8_C(95), UINT8_C(95), UINT8_C(95), UINT8_C(95), UINT8_C(95), UINT8_C(95), UINT8_C(95), UINT8_C(95), UINT8_C(95), UINT8_C(95), UINT8_C(95), UINT8_C(95), UINT8_C(95), UINT8_C(95), UINT8_C(95), UINT8_C(95), UINT8_C(95), UINT8_C(95), UINT8_C(95), UINT8_C(95), UINT8_C(95), UINT8_C(95), UINT8_C(95), UINT8_C(95), UINT8_C(95), UINT8_C(95), UINT8_C(95), UINT8_C(95), UINT8_C(95), UINT8_C(95), UINT8_C(95), UINT8_C(95), UINT8_C(95), UINT8_C(95), UINT8_C(95), UINT8_C(95), UINT8_C(95), UINT8_C(95), UINT8_C(95), UINT8_C(95), UINT8_C(95), UINT8_C(95), UINT8_C(95), UINT8_C(95), UINT8_C(95), UINT8_C(95), UINT8_C(95), UINT8_C(95), UINT8_C(95), UINT8_C(95), UINT8_C(95), UINT8_C(95), UINT8_C(95), UINT8_C(95), UINT8_C(95), UINT8_C(95), UINT8_C(95), UINT8_C(95), UINT8_C(95), UINT8_C(95), UINT8_C(95), UINT8_C(95), UINT8_C(95), UINT8_C(95), UINT8_C(95), UINT8_C(95), UINT8_C(95), UINT8_C(95), UINT8_C(95), UINT8_C(95), UINT8_C(95), UINT8_C(95), UINT8_C(95), UINT8_C(95), UINT8_C(95), UINT8_C(95), UINT8_C(95), UINT8_C(95), UINT8_C(95), UINT8_C(95), UINT8_C(95), UINT8_C(95), UINT8_C(95), UINT8_C(95), UINT8_C(95), UINT8_C(95), UINT8_C(95), UINT8_C(95), UINT8_C(95), UINT8_C(95), UINT8_C(95), UINT8_C(95), UINT8_C(95), UINT8_C(95), UINT8_C(95), UINT8_C(95), UINT8_C(95), UINT8_C(95), UINT8_C(95), UINT8_C(95), UINT8_C(95), UINT8_C(95), UINT8_C(95), UINT8_C(95), UINT8_C(95), UINT8_C(95), UINT8_C(95), UINT8_C(95), UINT8_C(48), UINT8_C(95), UINT8_C(95), UINT8_C(95), UINT8_C(95), UINT8_C(95), UINT8_C(95), UINT8_C(95), UINT8_C(95), UINT8_C(95), UINT8_C(95), UINT8_C(95), UINT8_C(95), UINT8_C(95), UINT8_C(95), UINT8_C(95), UINT8_C(95), UINT8_C(95), UINT8_C(95), UINT8_C(95), UINT8_C(95), UINT8_C(95), UINT8_C(95), UINT8_C(95), UINT8_C(95), UINT8_C(95), UINT8_C(95), UINT8_C(95), UINT8_C(95), UINT8_C(95), UINT8_C(95), UINT8_C(95), UINT8_C(95), UINT8_C(95), UINT8_C(95), UINT8_C(95), UINT8_C(95), UINT8_C(95), UINT8_C(95), UINT8_C(39), UINT8_C(95), UINT8_C(95), UINT8_C(95), UINT8_C(95), UINT8_C(95), UINT8_C(95), UINT8_C(95), UINT8_C(95), UINT8_C(95), UINT8_C(95), UINT8_C(95), UINT8_C(95), UINT8_C(95), UINT8_C(95), UINT8_C(95), UINT8_C(68), UINT8_C(95), UINT8_C(95), UINT8_C(95), UINT8_C(95), UINT8_C(95), UINT8_C(95), UINT8_C(95), UINT8_C(95), UINT8_C(95), UINT8_C(95), UINT8_C(95), UINT8_C(95), UINT8_C(95), UINT8_C(95), UINT8_C(95), UINT8_C(95), UINT8_C(95), UINT8_C(95), UINT8_C(95), UINT8_C(95), UINT8_C(95), UINT8_C(95), UINT8_C(95), UINT8_C(95), UINT8_C(95), UINT8_C(95), UINT8_C(95), UINT8_C(95), UINT8_C(95), UINT8_C(95), UINT8_C(95), UINT8_C(95), UINT8_C(95), UINT8_C(95), UINT8_C(95), UINT8_C(95), UINT8_C(95), UINT8_C(95), UINT8_C(95), UINT8_C(69), UINT8_C(95), UINT8_C(95), UINT8_C(95), UINT8_C(95), UINT8_C(95), UINT8_C(95), UINT8_C(95), UINT8_C(95), UINT8_C(95), UINT8_C(95), UINT8_C(95), UINT8_C(95), UINT8_C(95), UINT8_C(95), UINT8_C(95), UINT8_C(95), UINT8_C(95), UINT8_C(95), UINT8_C(95), UINT8_C(95), UINT8_C(95), UINT8_C(40), UINT8_C(95), UINT8_C(95), UINT8_C(95), UINT8_C(95), UINT8_C(95), UINT8_C(95), UINT8_C(95), UINT8_C(95), UINT8_C(95), UINT8_C(95), UINT8_C(95), UINT8_C(95), UINT8_C(95), UINT8_C(95), UINT8_C(95), UINT8_C(95), UINT8_C(95), UINT8_C(95), UINT8_C(95), UINT8_C(95), UINT8_C(95), UINT8_C(95), UINT8_C(95), UINT8_C(95), UINT8_C(95), UINT8_C(95), UINT8_C(95), UINT8_C(95), UINT8_C(95), UINT8_C(95), UINT8_C(95), UINT8_C(95), UINT8_C(95), UINT8_C(95), UINT8_C(95), UINT8_C(95), UINT8_C(95), UINT8_C(95), UINT8_C(40), UINT8_C(95), UINT8_C(95), UINT8_C(95), UINT8_C(95), UINT8_C(95), UINT8_C(95), UINT8_C(95), UINT8_C(95), UINT8_C(95), UINT8_C(95), UINT8_C(95), UINT8_C(95), UINT8_C(95), UINT8_C(95), UINT8_C(95), UINT8_C(95), UINT8_C(95), UINT8_C(95), UINT8_C(95), UINT8_C(95), UINT8_C(95), UINT8_C(95), UINT8_C(95), UINT8_C(95), UINT8_C(95), UINT8_C(95), UINT8_C(95), UINT8_C(95), UINT8_C(95), UINT8_C(95), UINT8_C(95), UINT8_C(95), UINT8_C(95), UINT8_C(95), UINT8_C(95), UINT8_C(95), UINT8_C(95), UINT8_C(95), UINT8_C(95), UINT8_C(95), UINT8_C(95), UINT8_C(95), UINT8_C(95), UINT8_C(95), UINT8_C(95), UINT8_C(95), UINT8_C(95), UINT8_C(95), UINT8_C(51), UINT8_C(52), UINT8_C(53), UINT8_C(95), UINT8_C(95), UINT8_C(95), UINT8_C(95), UINT8_C(95), UINT8_C(95), UINT8_C(95), UINT8_C(95), UINT8_C(95), UINT8_C(95), UINT8_C(95), UINT8_C(95), UINT8_C(95), UINT8_C(95), UINT8_C(95), UINT8_C(95), UINT8_C(95), UINT8_C(95), UINT8_C(95), UINT8_C(95), UINT8_C(95), UINT8_C(95), UINT8_C(95), UINT8_C(95), UINT8_C(95), UINT8_C(95), UINT8_C(54), UINT8_C(95), UINT8_C(95), UINT8_C(95), UINT8_C(95), UINT8_C(95), UINT8_C(95), UINT8_C(95), UINT8_C(95), UINT8_C(95), UINT8_C(95), UINT8_C(95), UINT8_C(95), UINT8_C(95), UINT8_C(95), UINT8_C(95), UINT8_C(95), UINT8_C(69), UINT8_C(95), UINT8_C(95), UINT8_C(78), UINT8_C(95), UINT8_C(95), UINT8_C(95), UINT8_C(95), UINT8_C(95), UINT8_C(95), UINT8_C(95), UINT8_C(95), UINT8_C(95), UINT8_C(95), UINT8_C(95), UINT8_C(95), UINT8_C(95), UINT8_C(95), UINT8_C(95), UINT8_C(95), UINT8_C(95), UINT8_C(95), UINT8_C(95), UINT8_C(95), UINT8_C(95), UINT8_C(95), UINT8_C(95), UINT8_C(95), UINT8_C(95), UINT8_C(95), UINT8_C(95), UINT8_C(95), UINT8_C(95), UINT8_C(95), UINT8_C(95), UINT8_C(95), UINT8_C(95), UINT8_C(95), UINT8_C(95), UINT8_C(95), UINT8_C(72), UINT8_C(95), UINT8_C(95), UINT8_C(95), UINT8_C(95), UINT8_C(95), UINT8_C(95), UINT8_C(95), UINT8_C(95), UINT8_C(95), UINT8_C(95), UINT8_C(95), UINT8_C(95), UINT8_C(95), UINT8_C(95), UINT8_C(95), UINT8_C(95), UINT8_C(95), UINT8_C(95), UINT8_C(95), UINT8_C(95), UINT8_C(95), UINT8_C(95), UINT8_C(95), UINT8_C(95), UINT8_C(95), UINT8_C(95), UINT8_C(95), UINT8_C(95), UINT8_C(95), UINT8_C(95), UINT8_C(95), UINT8_C(95), UINT8_C(95), UINT8_C(95), UINT8_C(95), UINT8_C(95), UINT8_C(95), UINT8_C(95), UINT8_C(95), UINT8_C(73), UINT8_C(95), UINT8_C(95), UINT8_C(95), UINT8_C(95), UINT8_C(95), UINT8_C(95), UINT8_C(95), UINT8_C(95), UINT8_C(95), UINT8_C(95), UINT8_C(95), UINT8_C(95), UINT8_C(95), UINT8_C(95), UINT8_C(95), UINT8_C(95), UINT8_C(95), UINT8_C(95), UINT8_C(95), UINT8_C(41), UINT8_C(95), UINT8_C(95), UINT8_C(95), UINT8_C(95), UINT8_C(95), UINT8_C(95), UINT8_C(95), UINT8_C(95), UINT8_C(95), UINT8_C(95), UINT8_C(95), UINT8_C(95), UINT8_C(95), UINT8_C(95), UINT8_C(95), UINT8_C(95), UINT8_C(95), UINT8_C(74), UINT8_C(95), UINT8_C(95), UINT8_C(95), UINT8_C(95), UINT8_C(95), UINT8_C(95), UINT8_C(95), UINT8_C(95), UINT8_C(95), UINT8_C(95), UINT8_C(95), UINT8_C(95), UINT8_C(95), UINT8_C(95), UINT8_C(95), UINT8_C(95), UINT8_C(95), UINT8_C(95), UINT8_C(95), UINT8_C(95), UINT8_C(95), UINT8_C(95), UINT8_C(95), UINT8_C(95), UINT8_C(95), UINT8_C(95), UINT8_C(95), UINT8_C(95), UINT8_C(95), UINT8_C(95), UINT8_C(55), UINT8_C(56), UINT8_C(57), UINT8_C(95), UINT8_C(95), UINT8_C(95), UINT8_C(95), UINT8_C(95), UINT8_C(95), UINT8_C(94), UINT8_C(95), UINT8_C(95), UINT8_C(95), UINT8_C(95), UINT8_C(95), UINT8_C(95), UINT8_C(95), UINT8_C(95), UINT8_C(95), UINT8_C(95), UINT8_C(95), UINT8_C(95), UINT8_C(95), UINT8_C(95), UINT8_C(95), UINT8_C(95), UINT8_C(95), UINT8_C(95), UINT8_C(95), UINT8_C(44), UINT8_C(95), UINT8_C(95), UINT8_C(95), UINT8_C(95), UINT8_C(95), UINT8_C(95), UINT8_C(95), UINT8_C(95), UINT8_C(95), UINT8_C(95), UINT8_C(95), UINT8_C(95), UINT8_C(95), UINT8_C(95), UINT8_C(95), UINT8_C(65), UINT8_C(95), UINT8_C(95), UINT8_C(95), UINT8_C(95), UINT8_C(95), UINT8_C(95), UINT8_C(95), UINT8_C(95), UINT8_C(95), UINT8_C(95), UINT8_C(95), UINT8_C(95), UINT8_C(95), UINT8_C(95), UINT8_C(95), UINT8_C(95), UINT8_C(95), UINT8_C(95), UINT8_C(95), UINT8_C(95), UINT8_C(95), UINT8_C(95), UINT8_C(42), UINT8_C(95), UINT8_C(95), UINT8_C(95), UINT8_C(95), UINT8_C(95), UINT8_C(95), UINT8_C(95), UINT8_C(95), UINT8_C(95), UINT8_C(95), UINT8_C(95), UINT8_C(95), UINT8_C(95), UINT8_C(95), UINT8_C(95), UINT8_C(95), UINT8_C(95), UINT8_C(95), UINT8_C(95), UINT8_C(95), UINT8_C(95), UINT8_C(95), UINT8_C(95), UINT8_C(95), UINT8_C(95), UINT8_C(95), UINT8_C(95), UINT8_C(95), UINT8_C(95), UINT8_C(95), UINT8_C(95), UINT8_C(95), UINT8_C(95), UINT8_C(95), UINT8_C(95), UINT8_C(95), UINT8_C(95), UINT8_C(95), UINT8_C(45), UINT8_C(95), UINT8_C(95), UINT8_C(95), UINT8_C(95), UINT8_C(95), UINT8_C(95), UINT8_C(95), UINT8_C(95), UINT8_C(95), UINT8_C(95), UINT8_C(95), UINT8_C(95), UINT8_C(95), UINT8_C(95), UINT8_C(95), UINT8_C(95), UINT8_C(95), UINT8_C(95), UINT8_C(95), UINT8_C(95), UINT8_C(95), UINT8_C(95), UINT8_C(95), UINT8_C(95), UINT8_C(95), UINT8_C(95), UINT8_C(95), UINT8_C(95), UINT8_C(95), UINT8_C(95), UINT8_C(95), UINT8_C(95), UINT8_C(95), UINT8_C(95), UINT8_C(95), UINT8_C(95), UINT8_C(95), UINT8_C(95), UINT8_C(95), UINT8_C(95), UINT8_C(95), UINT8_C(95), UINT8_C(95), UINT8_C(95), UINT8_C(95), UINT8_C(95), UINT8_C(95), UINT8_C(95), UINT8_C(95), UINT8_C(95), UINT8_C(95), UINT8_C(95), UINT8_C(95), UINT8_C(95), UINT8_C(95), UINT8_C(95), UINT8_C(95), UINT8_C(95), UINT8_C(95), UINT8_C(95), UINT8_C(95), UINT8_C(95), UINT8_C(95), UINT8_C(95), UINT8_C(95), UINT8_C(95), UINT8_C(95), UINT8_C(95), UINT8_C(95), UINT8_C(95), UINT8_C(95), UINT8_C(95), UINT8_C(95), UINT8_C(95), UINT8_C(95), UINT8_C(95), UINT8_C(95), UINT8_C(42), UINT8_C(95), UINT8_C(95), UINT8_C(95), UINT8_C(95), UINT8_C(95), UINT8_C(95), UINT8_C(95), UINT8_C(95), UINT8_C(95), UINT8_C(95), UINT8_C(95), UINT8_C(95), UINT8_C(95), UINT8_C(95), UINT8_C(95), UINT8_C(95), UINT8_C(95), UINT8_C(95), UINT8_C(95), UINT8_C(95), UINT8_C(95), UINT8_C(95), UINT8_C(95), UINT8_C(95), UINT8_C(95), UINT8_C(95), UINT8_C(95), UINT8_C(95), UINT8_C(95), UINT8_C(95), UINT8_C(95), UINT8_C(95), UINT8_C(95), UINT8_C(95), UINT8_C(95), UINT8_C(95), UINT8_C(95), UINT8_C(95), UINT8_C(95), UINT8_C(95), UINT8_C(95), UINT8_C(95), UINT8_C(95), UINT8_C(95), UINT8_C(95), UINT8_C(95), UINT8_C(95), UINT8_C(95), UINT8_C(95), UINT8_C(95), UINT8_C(95), UINT8_C(95), UINT8_C(95), UINT8_C(95), UINT8_C(63), UINT8_C(67), UINT8_C(95), UINT8_C(95), UINT8_C(95), UINT8_C(95), UINT8_C(95), UINT8_C(95), UINT8_C(95), UINT8_C(95), UINT8_C(95), UINT8_C(95), UINT8_C(95), UINT8_C(95), UINT8_C(95), UINT8_C(95), UINT8_C(95), UINT8_C(95), UINT8_C(95), UINT8_C(95), UINT8_C(95), UINT8_C(95), UINT8_C(95), UINT8_C(43), UINT8_C(95), UINT8_C(95), UINT8_C(95), UINT8_C(95), UINT8_C(95), UINT8_C(95), UINT8_C(95), UINT8_C(95), UINT8_C(95), UINT8_C(95), UINT8_C(95), UINT8_C(95), UINT8_C(95), UINT8_C(95), UINT8_C(95), UINT8_C(95), UINT8_C(95), UINT8_C(95), UINT8_C(95), UINT8_C(95), UINT8_C(95), UINT8_C(95), UINT8_C(95), UINT8_C(95), UINT8_C(95), UINT8_C(95), UINT8_C(95), UINT8_C(95), UINT8_C(95), UINT8_C(95), UINT8_C(95), UINT8_C(95), UINT8_C(95), UINT8_C(95), UINT8_C(95), UINT8_C(95), UINT8_C(95), UINT8_C(95), UINT8_C(95), UINT8_C(95), UINT8_C(95), UINT8_C(95), UINT8_C(95), UINT8_C(95), UINT8_C(95), UINT8_C(95), UINT8_C(95), UINT8_C(95), UINT8_C(95), UINT8_C(95), UINT8_C(95), UINT8_C(95), UINT8_C(95), UINT8_C(95), UINT8_C(95), UINT8_C(95), UINT8_C(76), UINT8_C(95), UINT8_C(95), UINT8_C(95), UINT8_C(95), UINT8_C(95), UINT8_C(95), UINT8_C(95), UINT8_C(95), UINT8_C(95), UINT8_C(95), UINT8_C(95), UINT8_C(95), UINT8_C(95), UINT8_C(95), UINT8_C(95), UINT8_C(95), UINT8_C(95), UINT8_C(95), UINT8_C(95), UINT8_C(95), UINT8_C(95), UINT8_C(95), UINT8_C(95), UINT8_C(95), UINT8_C(95), UINT8_C(95), UINT8_C(95), UINT8_C(95), UINT8_C(95), UINT8_C(95), UINT8_C(95), UINT8_C(95), UINT8_C(95), UINT8_C(95), UINT8_C(95), UINT8_C(95), UINT8_C(63), UINT8_C(95), UINT8_C(95), UINT8_C(95), UINT8_C(95), UINT8_C(95), UINT8_C(95), UINT8_C(95), UINT8_C(95), UINT8_C(95), UINT8_C(95), UINT8_C(95), UINT8_C(95), UINT8_C(95), UINT8_C(95), UINT8_C(95), UINT8_C(95), UINT8_C(95), UINT8_C(95), UINT8_C(95), UINT8_C(95), UINT8_C(95), UINT8_C(95), UINT8_C(43), UINT8_C(95), UINT8_C(95), UINT8_C(94), UINT8_C(94), UINT8_C(94), UINT8_C(94), UINT8_C(94), UINT8_C(94), UINT8_C(94), UINT8_C(94), UINT8_C(94), UINT8_C(94), UINT8_C(94), UINT8_C(94), UINT8_C(94), UINT8_C(94), UINT8_C(94), UINT8_C(94), UINT8_C(94), UINT8_C(94), UINT8_C(94), UINT8_C(94), UINT8_C(94), UINT8_C(94), UINT8_C(94), UINT8_C(94), UINT8_C(94), UINT8_C(94), UINT8_C(94), UINT8_C(94), UINT8_C(94), UINT8_C(94), UINT8_C(94), UINT8_C(94), UINT8_C(94), UINT8_C(94), UINT8_C(94), UINT8_C(94), UINT8_C(94), UINT8_C(94), UINT8_C(94), UINT8_C(94), UINT8_C(94), UINT8_C(94), UINT8_C(94), UINT8_C(94), UINT8_C(94), UINT8_C(94), UINT8_C(94), UINT8_C(94), UINT8_C(94), UINT8_C(94), UINT8_C(94), UINT8_C(94), UINT8_C(65), UINT8_C(94), UINT8_C(94), UINT8_C(94), UINT8_C(94), UINT8_C(94), UINT8_C(94), UINT8_C(94), UINT8_C(95), UINT8_C(94), UINT8_C(94), UINT8_C(94), UINT8_C(94), UINT8_C(94), UINT8_C(94), UINT8_C(94), UINT8_C(94), UINT8_C(94), UINT8_C(94), UINT8_C(94), UINT8_C(94), UINT8_C(94), UINT8_C(94), UINT8_C(94), UINT8_C(94), UINT8_C(94), UINT8_C(95), UINT8_C(95), UINT8_C(95), UINT8_C(95), UINT8_C(95), UINT8_C(95), UINT8_C(95), UINT8_C(95), UINT8_C(95), UINT8_C(95), UINT8_C(95), UINT8_C(95), UINT8_C(95), UINT8_C(95), UINT8_C(95), UINT8_C(95), UINT8_C(95), UINT8_C(95), UINT8_C(95), UINT8_C(95), UINT8_C(95), UINT8_C(95), UINT8_C(95), UINT8_C(95), UINT8_C(95), UINT8_C(95), UINT8_C(95), UINT8_C(95), UINT8_C(95), UINT8_C(95), UINT8_C(95), UINT8_C(95), UINT8_C(95), UINT8_C(95), UINT8_C(95), UINT8_C(95), UINT8_C(45), UINT8_C(95), UINT8_C(95), UINT8_C(94), UINT8_C(94), UINT8_C(94), UINT8_C(94), UINT8_C(94), UINT8_C(94), UINT8_C(94), UINT8_C(94), UINT8_C(94), UINT8_C(94), UINT8_C(94), UINT8_C(94), UINT8_C(94), UINT8_C(94), UINT8_C(94), UINT8_C(94), UINT8_C(94), UINT8_C(94), UINT8_C(94), UINT8_C(94), UINT8_C(94), UINT8_C(95), UINT8_C(94), UINT8_C(94), UINT8_C(94), UINT8_C(94), UINT8_C(94), UINT8_C(94), UINT8_C(94), UINT8_C(94), UINT8_C(94), UINT8_C(94), UINT8_C(94), UINT8_C(94), UINT8_C(94), UINT8_C(94), UINT8_C(94), UINT8_C(94), UINT8_C(94), UINT8_C(95), UINT8_C(95), UINT8_C(95), UINT8_C(95), UINT8_C(95), UINT8_C(95), UINT8_C(95), UINT8_C(95), UINT8_C(95), UINT8_C(95), UINT8_C(95), UINT8_C(95), UINT8_C(95), UINT8_C(63), UINT8_C(67), UINT8_C(95), UINT8_C(95), UINT8_C(95), UINT8_C(95), UINT8_C(95), UINT8_C(95), UINT8_C(95), UINT8_C(95), UINT8_C(95), UINT8_C(95), UINT8_C(95), UINT8_C(95), UINT8_C(95), UINT8_C(95), UINT8_C(95), UINT8_C(95), UINT8_C(95), UINT8_C(95), UINT8_C(95), UINT8_C(95), UINT8_C(95), UINT8_C(43), UINT8_C(95), UINT8_C(95), UINT8_C(95), UINT8_C(95), UINT8_C(95), UINT8_C(95), UINT8_C(95), UINT8_C(95), UINT8_C(95), UINT8_C(59), UINT8_C(60), UINT8_C(61), UINT8_C(95), UINT8_C(95), UINT8_C(95), UINT8_C(95), UINT8_C(95), UINT8_C(95), UINT8_C(95), UINT8_C(95), UINT8_C(95), UINT8_C(95), UINT8_C(95), UINT8_C(95), UINT8_C(95), UINT8_C(95), UINT8_C(95), UINT8_C(95), UINT8_C(95), UINT8_C(95), UINT8_C(95), UINT8_C(95), UINT8_C(95), UINT8_C(95), UINT8_C(95), UINT8_C(95), UINT8_C(95), UINT8_C(95), UINT8_C(62), UINT8_C(95), UINT8_C(95), UINT8_C(95), UINT8_C(95), UINT8_C(95), UINT8_C(95), UINT8_C(95), UINT8_C(95), UINT8_C(95), UINT8_C(95), UINT8_C(95), UINT8_C(95), UINT8_C(95), UINT8_C(95), UINT8_C(95), UINT8_C(95), UINT8_C(95), UINT8_C(95), UINT8_C(95), UINT8_C(95), UINT8_C(95), UINT8_C(95), UINT8_C(95), UINT8_C(95), UINT8_C(95), UINT8_C(95), UINT8_C(95), UINT8_C(95), UINT8_C(95), UINT8_C(95), UINT8_C(95), UINT8_C(95), UINT8_C(95), UINT8_C(95), UINT8_C(95), UINT8_C(95), UINT8_C(95), UINT8_C(95), UINT8_C(48), UINT8_C(95), UINT8_C(95), UINT8_C(94), UINT8_C(94), UINT8_C(94), UINT8_C(94), UINT8_C(94), UINT8_C(94), UINT8_C(94), UINT8_C(94), UINT8_C(94), UINT8_C(94), UINT8_C(94), UINT8_C(94), UINT8_C(94), UINT8_C(94), UINT8_C(94), UINT8_C(94), UINT8_C(94), UINT8_C(94), UINT8_C(94), UINT8_C(94), UINT8_C(94), UINT8_C(95), UINT8_C(94), UINT8_C(94), UINT8_C(94), UINT8_C(94), UINT8_C(94), UINT8_C(80), UINT8_C(94), UINT8_C(94), UINT8_C(94), UINT8_C(94), UINT8_C(94), UINT8_C(94), UINT8_C(94), UINT8_C(94), UINT8_C(94), UINT8_C(94), UINT8_C(94), UINT8_C(95), UINT8_C(95), UINT8_C(95), UINT8_C(95), UINT8_C(95), UINT8_C(95), UINT8_C(95), UINT8_C(95), UINT8_C(95), UINT8_C(95), UINT8_C(95), UINT8_C(95), UINT8_C(95), UINT8_C(95), UINT8_C(95), UINT8_C(95), UINT8_C(95), UINT8_C(95), UINT8_C(95), UINT8_C(95), UINT8_C(95), UINT8_C(95), UINT8_C(95), UINT8_C(95), UINT8_C(95), UINT8_C(95), UINT8_C(95), UINT8_C(95), UINT8_C(95), UINT8_C(95), UINT8_C(95), UINT8_C(95), UINT8_C(95), UINT8_C(95), UINT8_C(95), UINT8_C(95), UINT8_C(50), UINT8_C(95), UINT8_C(95), UINT8_C(95), UINT8_C(95), UINT8_C(95), UINT8_C(95), UINT8_C(95), UINT8_C(95), UINT8_C(95), UINT8_C(95), UINT8_C(95), UINT8_C(95), UINT8_C(95), UINT8_C(95), UINT8_C(95), UINT8_C(70), UINT8_C(95), UINT8_C(95), UINT8_C(95), UINT8_C(95), UINT8_C(95), UINT8_C(95), UINT8_C(95), UINT8_C(95), UINT8_C(95), UINT8_C(95), UINT8_C(95), UINT8_C(95), UINT8_C(95), UINT8_C(95), UINT8_C(95), UINT8_C(95), UINT8_C(95), UINT8_C(95), UINT8_C(95), UINT8_C(95), UINT8_C(95), UINT8_C(95), UINT8_C(95), UINT8_C(95), UINT8_C(95), UINT8_C(94), UINT8_C(94), UINT8_C(94), UINT8_C(94), UINT8_C(94), UINT8_C(94), UINT8_C(94), UINT8_C(94), UINT8_C(94), UINT8_C(94), UINT8_C(94), UINT8_C(94), UINT8_C(94), UINT8_C(94), UINT8_C(94), UINT8_C(94), UINT8_C(94), UINT8_C(94), UINT8_C(94), UINT8_C(94), UINT8_C(94), UINT8_C(94), UINT8_C(94), UINT8_C(94), UINT8_C(94), UINT8_C(94), UINT8_C(94), UINT8_C(80), UINT8_C(94), UINT8_C(94), UINT8_C(94), UINT8_C(94), UINT8_C(94), UINT8_C(94), UINT8_C(94), UINT8_C(94), UINT8_C(94), UINT8_C(94), UINT8_C(94), UINT8_C(95), UINT8_C(95), UINT8_C(95), UINT8_C(95), UINT8_C(95), UINT8_C(95), UINT8_C(95), UINT8_C(95), UINT8_C(95), UINT8_C(95), UINT8_C(95), UINT8_C(95), UINT8_C(95), UINT8_C(95), UINT8_C(71), UINT8_C(95), UINT8_C(95), UINT8_C(95), UINT8_C(95), UINT8_C(95), UINT8_C(95), UINT8_C(95), UINT8_C(95), UINT8_C(95), UINT8_C(95), UINT8_C(95), UINT8_C(95), UINT8_C(95), UINT8_C(95), UINT8_C(95), UINT8_C(95), UINT8_C(95), UINT8_C(95), UINT8_C(95), UINT8_C(95), UINT8_C(95), UINT8_C(95), UINT8_C(95), UINT8_C(95), UINT8_C(95), UINT8_C(95), UINT8_C(95), UINT8_C(95), UINT8_C(95), UINT8_C(95), UINT8_C(95), UINT8_C(95), UINT8_C(95), UINT8_C(95), UINT8_C(95), UINT8_C(95), UINT8_C(95), UINT8_C(95), UINT8_C(64), UINT8_C(95), UINT8_C(95), UINT8_C(95), UINT8_C(95), UINT8_C(95), UINT8_C(95), UINT8_C(95), UINT8_C(95), UINT8_C(95), UINT8_C(95), UINT8_C(95), UINT8_C(95), UINT8_C(95), UINT8_C(95), UINT8_C(95), UINT8_C(95), UINT8_C(95), UINT8_C(95), UINT8_C(95), UINT8_C(95), UINT8_C(95), UINT8_C(95), UINT8_C(95), UINT8_C(95), UINT8_C(95), UINT8_C(95), UINT8_C(95), UINT8_C(95), UINT8_C(95), UINT8_C(95), UINT8_C(95), UINT8_C(95), UINT8_C(95), UINT8_C(95), UINT8_C(95), UINT8_C(95), UINT8_C(95), UINT8_C(95), UINT8_C(66), UINT8_C(95), UINT8_C(95), UINT8_C(79), UINT8_C(95), UINT8_C(95), UINT8_C(95), UINT8_C(95), UINT8_C(95), UINT8_C(95), UINT8_C(95), UINT8_C(95), UINT8_C(95), UINT8_C(95), UINT8_C(95), UINT8_C(95), UINT8_C(95), UINT8_C(95), UINT8_C(95), UINT8_C(95), UINT8_C(95), UINT8_C(95), UINT8_C(95), UINT8_C(95), UINT8_C(95), UINT8_C(95), UINT8_C(95), UINT8_C(95), UINT8_C(95), UINT8_C(95), UINT8_C(95), UINT8_C(95), UINT8_C(95), UINT8_C(95), UINT8_C(95), UINT8_C(95), UINT8_C(95), UINT8_C(95), UINT8_C(95), UINT8_C(66), UINT8_C(95), UINT8_C(95), UINT8_C(79), UINT8_C(95), UINT8_C(95), UINT8_C(95), UINT8_C(95), UINT8_C(95), UINT8_C(95), UINT8_C(95), UINT8_C(95), UINT8_C(95), UINT8_C(95), UINT8_C(95), UINT8_C(95), UINT8_C(95), UINT8_C(95), UINT8_C(95), UINT8_C(95), UINT8_C(95), UINT8_C(95), UINT8_C(95), UINT8_C(95), UINT8_C(95), UINT8_C(95), UINT8_C(95), UINT8_C(95), UINT8_C(95), UINT8_C(95), UINT8_C(95), UINT8_C(95), UINT8_C(95), UINT8_C(95), UINT8_C(95), UINT8_C(95), UINT8_C(95), UINT8_C(95), UINT8_C(95), UINT8_C(95), UINT8_C(95), UINT8_C(95), UINT8_C(95), UINT8_C(95), UINT8_C(95), UINT8_C(95), UINT8_C(95), UINT8_C(95), UINT8_C(95), UINT8_C(95), UINT8_C(95), UINT8_C(95), UINT8_C(95), UINT8_C(95), UINT8_C(95), UINT8_C(95), UINT8_C(95), UINT8_C(95), UINT8_C(95), UINT8_C(95), UINT8_C(95), UINT8_C(95), UINT8_C(95), UINT8_C(95), UINT8_C(95), UINT8_C(95), UINT8_C(95), UINT8_C(95), UINT8_C(95), UINT8_C(95), UINT8_C(95), UINT8_C(95), UINT8_C(95), UINT8_C(95), UINT8_C(95), UINT8_C(95), UINT8_C(95), UINT8_C(95), UINT8_C(95), UINT8_C(95), UINT8_C(95), UINT8_C(95), UINT8_C(95), UINT8_C(95), UINT8_C(95), UINT8_C(95), UINT8_C(95), UINT8_C(95), UINT8_C(95), UINT8_C(95), UINT8_C(95), UINT8_C(95), UINT8_C(95), UINT8_C(95), UINT8_C(95), UINT8_C(95), UINT8_C(95), UINT8_C(95), UINT8_C(95), UINT8_C(95), UINT8_C(95), UINT8_C(95), UINT8_C(95), UINT8_C(95), UINT8_C(95), UINT8_C(95), UINT8_C(95), UINT8_C(95), UINT8_C(95), UINT8_C(95), UINT8_C(95), UINT8_C(95), UINT8_C(95), UINT8_C(95), UINT8_C(95), UINT8_C(95), UINT8_C(95), UINT8_C(95), UINT8_C(95), UINT8_C(75), UINT8_C(95), UINT8_C(95), UINT8_C(95), UINT8_C(95), UINT8_C(95), UINT8_C(95), UINT8_C(95), UINT8_C(95), UINT8_C(95), UINT8_C(95), UINT8_C(95), UINT8_C(95), UINT8_C(95), UINT8_C(95), UINT8_C(95), UINT8_C(95), UINT8_C(95), UINT8_C(95), UINT8_C(95), UINT8_C(95), UINT8_C(95), UINT8_C(95), UINT8_C(95), UINT8_C(95), UINT8_C(95), UINT8_C(95), UINT8_C(95), UINT8_C(95), UINT8_C(95), UINT8_C(95), UINT8_C(95), UINT8_C(95), UINT8_C(95), UINT8_C(95), UINT8_C(95), UINT8_C(95), UINT8_C(95), UINT8_C(95), UINT8_C(77), UINT8_C(95), UINT8_C(95), UINT8_C(95), UINT8_C(95), UINT8_C(95), UINT8_C(95), UINT8_C(95), UINT8_C(95), UINT8_C(95), UINT8_C(95), UINT8_C(95), UINT8_C(95), UINT8_C(95), UINT8_C(95), UINT8_C(95), UINT8_C(95), UINT8_C(95), UINT8_C(95), UINT8_C(95), UINT8_C(95), UINT8_C(95), UINT8_C(95), UINT8_C(95), UINT8_C(95), UINT8_C(95), UINT8_C(95), UINT8_C(95), UINT8_C(95), UINT8_C(95), UINT8_C(95), UINT8_C(95), UINT8_C(95), UINT8_C(95), UINT8_C(95), UINT8_C(95), UINT8_C(95), UINT8_C(64), UINT8_C(95), UINT8_C(95), UINT8_C(95), UINT8_C(95), UINT8_C(95), UINT8_C(95), UINT8_C(95), UINT8_C(95), UINT8_C(95), UINT8_C(95), UINT8_C(95), UINT8_C(95), UINT8_C(95), UINT8_C(95), UINT8_C(95), UINT8_C(95), UINT8_C(95), UINT8_C(95), UINT8_C(95), UINT8_C(95), UINT8_C(95), UINT8_C(95), UINT8_C(95), UINT8_C(95), UINT8_C(95), UINT8_C(95), UINT8_C(95), UINT8_C(95), UINT8_C(95), UINT8_C(95), UINT8_C(95), UINT8_C(95), UINT8_C(95), UINT8_C(95), UINT8_C(95), UINT8_C(95), UINT8_C(95), UINT8_C(95), UINT8_C(66), UINT8_C(95), UINT8_C(95), UINT8_C(79), UINT8_C(95), UINT8_C(95), UINT8_C(95), UINT8_C(95), UINT8_C(95), UINT8_C(95), UINT8_C(95), UINT8_C(95), UINT8_C(95), UINT8_C(95), UINT8_C(95), UINT8_C(95), UINT8_C(95), UINT8_C(95), UINT8_C(95), UINT8_C(95), UINT8_C(95), UINT8_C(95), UINT8_C(95), UINT8_C(95), UINT8_C(95), UINT8_C(95), UINT8_C(95), UINT8_C(95), UINT8_C(95), UINT8_C(95), UINT8_C(95), UINT8_C(95), UINT8_C(95), UINT8_C(95), UINT8_C(95), UINT8_C(95), UINT8_C(95), UINT8_C(95), UINT8_C(95), UINT8_C(66), UINT8_C(95), UINT8_C(95), UINT8_C(79), UINT8_C(95), UINT8_C(95), UINT8_C(95), UINT8_C(95), UINT8_C(95), UINT8_C(95), UINT8_C(95), UINT8_C(95), UINT8_C(95), UINT8_C(95), UINT8_C(95), UINT8_C(95), UINT8_C(95), UINT8_C(95), UINT8_C(95), UINT8_C(95), UINT8_C(95), UINT8_C(95), UINT8_C(95), UINT8_C(95), UINT8_C(95), UINT8_C(95), UINT8_C(95), UINT8_C(95), UINT8_C(95), UINT8_C(95), UINT8_C(95), UINT8_C(95), UINT8_C(95), UINT8_C(95), UINT8_C(95), UINT8_C(95), UINT8_C(95), UINT8_C(95), UINT8_C(95), UINT8_C(95), UINT8_C(95), UINT8_C(95), UINT8_C(95), UINT8_C(95), UINT8_C(95), UINT8_C(95), UINT8_C(95), UINT8_C(95), UINT8_C(95), UINT8_C(95), UINT8_C(95), UINT8_C(95), UINT8_C(95), UINT8_C(95), UINT8_C(95), UINT8_C(95), UINT8_C(95), UINT8_C(95), UINT8_C(95), UINT8_C(95), UINT8_C(95), UINT8_C(95), UINT8_C(95), UINT8_C(95), UINT8_C(95), UINT8_C(95), UINT8_C(95), UINT8_C(95), UINT8_C(95), UINT8_C(95), UINT8_C(95), UINT8_C(95), UINT8_C(95), UINT8_C(95), UINT8_C(95), UINT8_C(95), UINT8_C(95), UINT8_C(95), UINT8_C(95), UINT8_C(95), UINT8_C(95), UINT8_C(95), UINT8_C(95), UINT8_C(95), UINT8_C(95), UINT8_C(95), UINT8_C(95), UINT8_C(95), UINT8_C(95), UINT8_C(95), UINT8_C(95), UINT8_C(95), UINT8_C(95), UINT8_C(95), UINT8_C(95), UINT8_C(95), UINT8_C(95), UINT8_C(95), UINT8_C(95), UINT8_C(95), UINT8_C(95), UINT8_C(95), UINT8_C(95) } };
+static const struct rt_array_uint8_1833 derive__derived__l16 = { { UINT8_C(48), UINT8_C(48), UINT8_C(48), UINT8_C(48), UINT8_C(48), UINT8_C(48), UINT8_C(48), UINT8_C(48), UINT8_C(48), UINT8_C(48), UINT8_C(48), UINT8_C(48), UINT8_C(48), UINT8_C(48), UINT8_C(48), UINT8_C(48), UINT8_C(48), UINT8_C(48), UINT8_C(48), UINT8_C(48), UINT8_C(48), UINT8_C(48), UINT8_C(48), UINT8_C(48), UINT8_C(48), UINT8_C(48), UINT8_C(48), UINT8_C(48), UINT8_C(48), UINT8_C(48), UINT8_C(48), UINT8_C(48), UINT8_C(48), UINT8_C(48), UINT8_C(48), UINT8_C(48), UINT8_C(48), UINT8_C(48), UINT8_C(48), UINT8_C(48), UINT8_C(51), UINT8_C(48), UINT8_C(48), UINT8_C(48), UINT8_C(48), UINT8_C(48), UINT8_C(48), UINT8_C(48), UINT8_C(48), UINT8_C(48), UINT8_C(48), UINT8_C(48), UINT8_C(48), UINT8_C(48), UINT8_C(48), UINT8_C(48), UINT8_C(48), UINT8_C(48), UINT8_C(48), UINT8_C(48), UINT8_C(48), UINT8_C(48), UINT8_C(48), UINT8_C(48), UINT8_C(48), UINT8_C(48), UINT8_C(48), UINT8_C(48), UINT8_C(48), UINT8_C(48), UINT8_C(48), UINT8_C(48), UINT8_C(48), UINT8_C(48), UINT8_C(48), UINT8_C(48), UINT8_C(48), UINT8_C(48), UINT8_C(48), UINT8_C(51), UINT8_C(48), UINT8_C(48), UINT8_C(48), UINT8_C(48), UINT8_C(80), UINT8_C(48), UINT8_C(48), UINT8_C(48), UINT8_C(48), UINT8_C(48), UINT8_C(48), UINT8_C(48), UINT8_C(48), UINT8_C(48), UINT8_C(48), UINT8_C(48), UINT8_C(48), UINT8_C(48), UINT8_C(48), UINT8_C(48), UINT8_C(48), UINT8_C(48), UINT8_C(48), UINT8_C(48), UINT8_C(48), UINT8_C(48), UINT8_C(48), UINT8_C(48), UINT8_C(48), UINT8_C(48), UINT8_C(48), UINT8_C(48), UINT8_C(48), UINT8_C(48), UINT8_C(78), UINT8_C(48), UINT8_C(48), UINT8_C(48), UINT8_C(48), UINT8_C(48), UINT8_C(48), UINT8_C(48), UINT8_C(48), UINT8_C(48), UINT8_C(48), UINT8_C(48), UINT8_C(48), UINT8_C(48), UINT8_C(48), UINT8_C(48), UINT8_C(48), UINT8_C(48), UINT8_C(48), UINT8_C(48), UINT8_C(48), UINT8_C(48), UINT8_C(48), UINT8_C(48), UINT8_C(48), UINT8_C(48), UINT8_C(48), UINT8_C(48), UINT8_C(48), UINT8_C(48), UINT8_C(48), UINT8_C(48), UINT8_C(48), UINT8_C(48), UINT8_C(48), UINT8_C(48), UINT8_C(48), UINT8_C(48), UINT8_C(48), UINT8_C(52), UINT8_C(48), UINT8_C(48), UINT8_C(48), UINT8_C(48), UINT8_C(48), UINT8_C(48), UINT8_C(48), UINT8_C(48), UINT8_C(48), UINT8_C(48), UINT8_C(48), UINT8_C(48), UINT8_C(48), UINT8_C(48), UINT8_C(48), UINT8_C(53), UINT8_C(48), UINT8_C(48), UINT8_C(48), UINT8_C(48), UINT8_C(48), UINT8_C(48), UINT8_C(48), UINT8_C(48), UINT8_C(48), UINT8_C(48), UINT8_C(48), UINT8_C(48), UINT8_C(48), UINT8_C(48), UINT8_C(48), UINT8_C(48), UINT8_C(48), UINT8_C(48), UINT8_C(48), UINT8_C(48), UINT8_C(48), UINT8_C(48), UINT8_C(48), UINT8_C(48), UINT8_C(48), UINT8_C(48), UINT8_C(48), UINT8_C(48), UINT8_C(48), UINT8_C(48), UINT8_C(48), UINT8_C(48), UINT8_C(48), UINT8_C(48), UINT8_C(48), UINT8_C(48), UINT8_C(48), UINT8_C(48), UINT8_C(48), UINT8_C(58), UINT8_C(48), UINT8_C(48), UINT8_C(48), UINT8_C(48), UINT8_C(48), UINT8_C(48), UINT8_C(48), UINT8_C(48), UINT8_C(48), UINT8_C(48), UINT8_C(48), UINT8_C(48), UINT8_C(48), UINT8_C(48), UINT8_C(48), UINT8_C(48), UINT8_C(48), UINT8_C(48), UINT8_C(48), UINT8_C(48), UINT8_C(48), UINT8_C(55), UINT8_C(48), UINT8_C(48), UINT8_C(48), UINT8_C(48), UINT8_C(48), UINT8_C(48), UINT8_C(48), UINT8_C(48), UINT8_C(48), UINT8_C(48), UINT8_C(48), UINT8_C(48), UINT8_C(48), UINT8_C(48), UINT8_C(48), UINT8_C(48), UINT8_C(48), UINT8_C(48), UINT8_C(48), UINT8_C(48), UINT8_C(48), UINT8_C(48), UINT8_C(48), UINT8_C(48), UINT8_C(48), UINT8_C(48), UINT8_C(48), UINT8_C(48), UINT8_C(48), UINT8_C(48), UINT8_C(48), UINT8_C(48), UINT8_C(48), UINT8_C(48), UINT8_C(48), UINT8_C(48), UINT8_C(48), UINT8_C(48), UINT8_C(55), UINT8_C(48), UINT8_C(48), UINT8_C(48), UINT8_C(48), UINT8_C(48), UINT8_C(48), UINT8_C(48), UINT8_C(48), UINT8_C(48), UINT8_C(48), UINT8_C(48), UINT8_C(48), UINT8_C(48), UINT8_C(48), UINT8_C(48), UINT8_C(48), UINT8_C(48), UINT8_C(48), UINT8_C(48), UINT8_C(48), UINT8_C(56), UINT8_C(48), UINT8_C(48), UINT8_C(48), UINT8_C(48), UINT8_C(48), UINT8_C(48), UINT8_C(48), UINT8_C(48), UINT8_C(48), UINT8_C(48), UINT8_C(48), UINT8_C(48), UINT8_C(48), UINT8_C(48), UINT8_C(48), UINT8_C(48), UINT8_C(48), UINT8_C(48), UINT8_C(48), UINT8_C(48), UINT8_C(48), UINT8_C(48), UINT8_C(48), UINT8_C(48), UINT8_C(48), UINT8_C(48), UINT8_C(48), UINT8_C(57), UINT8_C(57), UINT8_C(57), UINT8_C(48), UINT8_C(48), UINT8_C(48), UINT8_C(48), UINT8_C(48), UINT8_C(48), UINT8_C(48), UINT8_C(48), UINT8_C(48), UINT8_C(48), UINT8_C(48), UINT8_C(48), UINT8_C(48), UINT8_C(48), UINT8_C(48), UINT8_C(48), UINT8_C(48), UINT8_C(48), UINT8_C(48), UINT8_C(48), UINT8_C(48), UINT8_C(48), UINT8_C(48), UINT8_C(48), UINT8_C(48), UINT8_C(48), UINT8_C(57), UINT8_C(48), UINT8_C(48), UINT8_C(48), UINT8_C(48), UINT8_C(48), UINT8_C(48), UINT8_C(48), UINT8_C(48), UINT8_C(48), UINT8_C(48), UINT8_C(48), UINT8_C(48), UINT8_C(48), UINT8_C(48), UINT8_C(48), UINT8_C(48), UINT8_C(58), UINT8_C(48), UINT8_C(48), UINT8_C(54), UINT8_C(48), UINT8_C(48), UINT8_C(48), UINT8_C(48), UINT8_C(48), UINT8_C(48), UINT8_C(48), UINT8_C(48), UINT8_C(48), UINT8_C(48), UINT8_C(48), UINT8_C(48), UINT8_C(48), UINT8_C(48), UINT8_C(48), UINT8_C(48), UINT8_C(48), UINT8_C(48), UINT8_C(48), UINT8_C(48), UINT8_C(48), UINT8_C(48), UINT8_C(48), UINT8_C(48), UINT8_C(48), UINT8_C(48), UINT8_C(48), UINT8_C(48), UINT8_C(48), UINT8_C(48), UINT8_C(48), UINT8_C(48), UINT8_C(48), UINT8_C(48), UINT8_C(48), UINT8_C(48), UINT8_C(59), UINT8_C(48), UINT8_C(48), UINT8_C(48), UINT8_C(48), UINT8_C(48), UINT8_C(48), UINT8_C(48), UINT8_C(48), UINT8_C(48), UINT8_C(48), UINT8_C(48), UINT8_C(48), UINT8_C(48), UINT8_C(48), UINT8_C(48), UINT8_C(48), UINT8_C(48), UINT8_C(48), UINT8_C(48), UINT8_C(48), UINT8_C(48), UINT8_C(48), UINT8_C(48), UINT8_C(48), UINT8_C(48), UINT8_C(48), UINT8_C(48), UINT8_C(48), UINT8_C(48), UINT8_C(48), UINT8_C(48), UINT8_C(48), UINT8_C(48), UINT8_C(48), UINT8_C(48), UINT8_C(48), UINT8_C(48), UINT8_C(48), UINT8_C(48), UINT8_C(50), UINT8_C(48), UINT8_C(48), UINT8_C(48), UINT8_C(48), UINT8_C(48), UINT8_C(48), UINT8_C(48), UINT8_C(48), UINT8_C(48), UINT8_C(48), UINT8_C(48), UINT8_C(48), UINT8_C(48), UINT8_C(48), UINT8_C(48), UINT8_C(48), UINT8_C(48), UINT8_C(48), UINT8_C(48), UINT8_C(60), UINT8_C(48), UINT8_C(48), UINT8_C(48), UINT8_C(48), UINT8_C(48), UINT8_C(48), UINT8_C(48), UINT8_C(48), UINT8_C(48), UINT8_C(48), UINT8_C(48), UINT8_C(48), UINT8_C(48), UINT8_C(48), UINT8_C(48), UINT8_C(48), UINT8_C(48), UINT8_C(61), UINT8_C(48), UINT8_C(48), UINT8_C(48), UINT8_C(48), UINT8_C(48), UINT8_C(48), UINT8_C(48), UINT8_C(48), UINT8_C(48), UINT8_C(48), UINT8_C(48), UINT8_C(48), UINT8_C(48), UINT8_C(48), UINT8_C(48), UINT8_C(48), UINT8_C(48), UINT8_C(48), UINT8_C(48), UINT8_C(48), UINT8_C(48), UINT8_C(48), UINT8_C(48), UINT8_C(48), UINT8_C(48), UINT8_C(70), UINT8_C(48), UINT8_C(48), UINT8_C(48), UINT8_C(48), UINT8_C(65), UINT8_C(65), UINT8_C(65), UINT8_C(48), UINT8_C(48), UINT8_C(48), UINT8_C(48), UINT8_C(48), UINT8_C(48), UINT8_C(111), UINT8_C(48), UINT8_C(48), UINT8_C(48), UINT8_C(48), UINT8_C(48), UINT8_C(48), UINT8_C(48), UINT8_C(48), UINT8_C(48), UINT8_C(48), UINT8_C(48), UINT8_C(48), UINT8_C(48), UINT8_C(48), UINT8_C(48), UINT8_C(48), UINT8_C(48), UINT8_C(48), UINT8_C(48), UINT8_C(62), UINT8_C(48), UINT8_C(48), UINT8_C(48), UINT8_C(48), UINT8_C(48), UINT8_C(48), UINT8_C(48), UINT8_C(48), UINT8_C(48), UINT8_C(48), UINT8_C(48), UINT8_C(48), UINT8_C(48), UINT8_C(48), UINT8_C(48), UINT8_C(67), UINT8_C(48), UINT8_C(48), UINT8_C(48), UINT8_C(48), UINT8_C(48), UINT8_C(48), UINT8_C(70), UINT8_C(63), UINT8_C(48), UINT8_C(48), UINT8_C(48), UINT8_C(48), UINT8_C(48), UINT8_C(48), UINT8_C(48), UINT8_C(48), UINT8_C(48), UINT8_C(48), UINT8_C(48), UINT8_C(48), UINT8_C(48), UINT8_C(48), UINT8_C(66), UINT8_C(48), UINT8_C(48), UINT8_C(48), UINT8_C(48), UINT8_C(48), UINT8_C(48), UINT8_C(48), UINT8_C(48), UINT8_C(48), UINT8_C(48), UINT8_C(48), UINT8_C(48), UINT8_C(48), UINT8_C(48), UINT8_C(48), UINT8_C(48), UINT8_C(48), UINT8_C(48), UINT8_C(48), UINT8_C(48), UINT8_C(48), UINT8_C(48), UINT8_C(48), UINT8_C(48), UINT8_C(48), UINT8_C(48), UINT8_C(48), UINT8_C(48), UINT8_C(48), UINT8_C(48), UINT8_C(48), UINT8_C(48), UINT8_C(48), UINT8_C(48), UINT8_C(48), UINT8_C(48), UINT8_C(48), UINT8_C(48), UINT8_C(64), UINT8_C(48), UINT8_C(48), UINT8_C(48), UINT8_C(48), UINT8_C(48), UINT8_C(48), UINT8_C(48), UINT8_C(48), UINT8_C(48), UINT8_C(48), UINT8_C(48), UINT8_C(48), UINT8_C(48), UINT8_C(48), UINT8_C(48), UINT8_C(48), UINT8_C(48), UINT8_C(48), UINT8_C(48), UINT8_C(48), UINT8_C(48), UINT8_C(48), UINT8_C(70), UINT8_C(63), UINT8_C(48), UINT8_C(48), UINT8_C(48), UINT8_C(48), UINT8_C(48), UINT8_C(48), UINT8_C(48), UINT8_C(48), UINT8_C(48), UINT8_C(48), UINT8_C(48), UINT8_C(48), UINT8_C(48), UINT8_C(48), UINT8_C(48), UINT8_C(48), UINT8_C(48), UINT8_C(48), UINT8_C(48), UINT8_C(48), UINT8_C(48), UINT8_C(48), UINT8_C(48), UINT8_C(48), UINT8_C(48), UINT8_C(48), UINT8_C(48), UINT8_C(48), UINT8_C(48), UINT8_C(48), UINT8_C(48), UINT8_C(48), UINT8_C(48), UINT8_C(48), UINT8_C(48), UINT8_C(48), UINT8_C(48), UINT8_C(48), UINT8_C(48), UINT8_C(48), UINT8_C(48), UINT8_C(48), UINT8_C(48), UINT8_C(48), UINT8_C(48), UINT8_C(48), UINT8_C(48), UINT8_C(48), UINT8_C(48), UINT8_C(48), UINT8_C(48), UINT8_C(48), UINT8_C(48), UINT8_C(66), UINT8_C(48), UINT8_C(48), UINT8_C(48), UINT8_C(48), UINT8_C(48), UINT8_C(48), UINT8_C(48), UINT8_C(48), UINT8_C(48), UINT8_C(48), UINT8_C(48), UINT8_C(48), UINT8_C(48), UINT8_C(48), UINT8_C(48), UINT8_C(48), UINT8_C(48), UINT8_C(48), UINT8_C(48), UINT8_C(48), UINT8_C(48), UINT8_C(48), UINT8_C(70), UINT8_C(48), UINT8_C(48), UINT8_C(48), UINT8_C(48), UINT8_C(48), UINT8_C(48), UINT8_C(48), UINT8_C(48), UINT8_C(48), UINT8_C(48), UINT8_C(48), UINT8_C(48), UINT8_C(48), UINT8_C(48), UINT8_C(48), UINT8_C(48), UINT8_C(48), UINT8_C(48), UINT8_C(48), UINT8_C(48), UINT8_C(48), UINT8_C(48), UINT8_C(76), UINT8_C(71), UINT8_C(48), UINT8_C(48), UINT8_C(48), UINT8_C(48), UINT8_C(48), UINT8_C(71), UINT8_C(71), UINT8_C(70), UINT8_C(111), UINT8_C(48), UINT8_C(48), UINT8_C(48), UINT8_C(48), UINT8_C(48), UINT8_C(48), UINT8_C(48), UINT8_C(70), UINT8_C(48), UINT8_C(48), UINT8_C(48), UINT8_C(48), UINT8_C(48), UINT8_C(48), UINT8_C(48), UINT8_C(48), UINT8_C(48), UINT8_C(48), UINT8_C(48), UINT8_C(48), UINT8_C(48), UINT8_C(72), UINT8_C(71), UINT8_C(71), UINT8_C(48), UINT8_C(48), UINT8_C(48), UINT8_C(48), UINT8_C(48), UINT8_C(48), UINT8_C(48), UINT8_C(48), UINT8_C(48), UINT8_C(48), UINT8_C(48), UINT8_C(48), UINT8_C(48), UINT8_C(48), UINT8_C(48), UINT8_C(48), UINT8_C(48), UINT8_C(48), UINT8_C(48), UINT8_C(61), UINT8_C(48), UINT8_C(48), UINT8_C(48), UINT8_C(48), UINT8_C(48), UINT8_C(48), UINT8_C(48), UINT8_C(48), UINT8_C(48), UINT8_C(48), UINT8_C(48), UINT8_C(48), UINT8_C(48), UINT8_C(48), UINT8_C(48), UINT8_C(48), UINT8_C(48), UINT8_C(48), UINT8_C(48), UINT8_C(48), UINT8_C(48), UINT8_C(48), UINT8_C(48), UINT8_C(48), UINT8_C(48), UINT8_C(48), UINT8_C(48), UINT8_C(48), UINT8_C(48), UINT8_C(48), UINT8_C(48), UINT8_C(48), UINT8_C(48), UINT8_C(48), UINT8_C(61), UINT8_C(48), UINT8_C(48), UINT8_C(48), UINT8_C(48), UINT8_C(48), UINT8_C(48), UINT8_C(48), UINT8_C(48), UINT8_C(48), UINT8_C(48), UINT8_C(48), UINT8_C(48), UINT8_C(48), UINT8_C(48), UINT8_C(48), UINT8_C(48), UINT8_C(48), UINT8_C(48), UINT8_C(48), UINT8_C(48), UINT8_C(48), UINT8_C(48), UINT8_C(48), UINT8_C(48), UINT8_C(48), UINT8_C(48), UINT8_C(48), UINT8_C(76), UINT8_C(71), UINT8_C(48), UINT8_C(48), UINT8_C(48), UINT8_C(48), UINT8_C(48), UINT8_C(71), UINT8_C(71), UINT8_C(70), UINT8_C(48), UINT8_C(48), UINT8_C(48), UINT8_C(48), UINT8_C(48), UINT8_C(48), UINT8_C(48), UINT8_C(48), UINT8_C(70), UINT8_C(48), UINT8_C(48), UINT8_C(48), UINT8_C(48), UINT8_C(48), UINT8_C(48), UINT8_C(48), UINT8_C(48), UINT8_C(48), UINT8_C(48), UINT8_C(48), UINT8_C(48), UINT8_C(48), UINT8_C(72), UINT8_C(71), UINT8_C(71), UINT8_C(111), UINT8_C(111), UINT8_C(111), UINT8_C(111), UINT8_C(111), UINT8_C(111), UINT8_C(111), UINT8_C(111), UINT8_C(111), UINT8_C(111), UINT8_C(111), UINT8_C(111), UINT8_C(111), UINT8_C(111), UINT8_C(111), UINT8_C(111), UINT8_C(111), UINT8_C(111), UINT8_C(111), UINT8_C(111), UINT8_C(111), UINT8_C(111), UINT8_C(111), UINT8_C(111), UINT8_C(111), UINT8_C(111), UINT8_C(111), UINT8_C(111), UINT8_C(111), UINT8_C(111), UINT8_C(111), UINT8_C(111), UINT8_C(111), UINT8_C(111), UINT8_C(111), UINT8_C(111), UINT8_C(111), UINT8_C(111), UINT8_C(111), UINT8_C(111), UINT8_C(111), UINT8_C(111), UINT8_C(111), UINT8_C(111), UINT8_C(111), UINT8_C(111), UINT8_C(111), UINT8_C(111), UINT8_C(111), UINT8_C(111), UINT8_C(111), UINT8_C(111), UINT8_C(75), UINT8_C(111), UINT8_C(111), UINT8_C(111), UINT8_C(111), UINT8_C(111), UINT8_C(111), UINT8_C(111), UINT8_C(73), UINT8_C(111), UINT8_C(111), UINT8_C(111), UINT8_C(111), UINT8_C(111), UINT8_C(111), UINT8_C(111), UINT8_C(111), UINT8_C(111), UINT8_C(111), UINT8_C(111), UINT8_C(111), UINT8_C(111), UINT8_C(111), UINT8_C(111), UINT8_C(111), UINT8_C(111), UINT8_C(48), UINT8_C(48), UINT8_C(48), UINT8_C(48), UINT8_C(48), UINT8_C(48), UINT8_C(48), UINT8_C(48), UINT8_C(48), UINT8_C(48), UINT8_C(48), UINT8_C(48), UINT8_C(48), UINT8_C(48), UINT8_C(48), UINT8_C(48), UINT8_C(48), UINT8_C(48), UINT8_C(48), UINT8_C(48), UINT8_C(48), UINT8_C(48), UINT8_C(48), UINT8_C(48), UINT8_C(48), UINT8_C(48), UINT8_C(48), UINT8_C(48), UINT8_C(48), UINT8_C(48), UINT8_C(48), UINT8_C(48), UINT8_C(48), UINT8_C(48), UINT8_C(48), UINT8_C(48), UINT8_C(74), UINT8_C(48), UINT8_C(48), UINT8_C(111), UINT8_C(111), UINT8_C(111), UINT8_C(111), UINT8_C(111), UINT8_C(111), UINT8_C(111), UINT8_C(111), UINT8_C(111), UINT8_C(111), UINT8_C(111), UINT8_C(111), UINT8_C(111), UINT8_C(111), UINT8_C(111), UINT8_C(111), UINT8_C(111), UINT8_C(111), UINT8_C(111), UINT8_C(111), UINT8_C(111), UINT8_C(73), UINT8_C(111), UINT8_C(111), UINT8_C(111), UINT8_C(111), UINT8_C(111), UINT8_C(111), UINT8_C(111), UINT8_C(111), UINT8_C(111), UINT8_C(111), UINT8_C(111), UINT8_C(111), UINT8_C(111), UINT8_C(111), UINT8_C(111), UINT8_C(111), UINT8_C(111), UINT8_C(48), UINT8_C(48), UINT8_C(48), UINT8_C(48), UINT8_C(76), UINT8_C(71), UINT8_C(48), UINT8_C(48), UINT8_C(48), UINT8_C(48), UINT8_C(48), UINT8_C(71), UINT8_C(71), UINT8_C(70), UINT8_C(111), UINT8_C(48), UINT8_C(48), UINT8_C(48), UINT8_C(48), UINT8_C(48), UINT8_C(48), UINT8_C(48), UINT8_C(70), UINT8_C(48), UINT8_C(48), UINT8_C(48), UINT8_C(48), UINT8_C(48), UINT8_C(48), UINT8_C(48), UINT8_C(48), UINT8_C(48), UINT8_C(48), UINT8_C(48), UINT8_C(48), UINT8_C(48), UINT8_C(72), UINT8_C(71), UINT8_C(71), UINT8_C(48), UINT8_C(48), UINT8_C(48), UINT8_C(48), UINT8_C(48), UINT8_C(48), UINT8_C(48), UINT8_C(71), UINT8_C(71), UINT8_C(71), UINT8_C(48), UINT8_C(48), UINT8_C(48), UINT8_C(48), UINT8_C(48), UINT8_C(48), UINT8_C(48), UINT8_C(48), UINT8_C(48), UINT8_C(48), UINT8_C(48), UINT8_C(48), UINT8_C(48), UINT8_C(48), UINT8_C(48), UINT8_C(48), UINT8_C(48), UINT8_C(48), UINT8_C(48), UINT8_C(48), UINT8_C(48), UINT8_C(48), UINT8_C(48), UINT8_C(48), UINT8_C(48), UINT8_C(48), UINT8_C(71), UINT8_C(48), UINT8_C(48), UINT8_C(48), UINT8_C(48), UINT8_C(48), UINT8_C(48), UINT8_C(48), UINT8_C(48), UINT8_C(80), UINT8_C(48), UINT8_C(48), UINT8_C(48), UINT8_C(48), UINT8_C(48), UINT8_C(48), UINT8_C(48), UINT8_C(48), UINT8_C(48), UINT8_C(48), UINT8_C(48), UINT8_C(48), UINT8_C(48), UINT8_C(48), UINT8_C(48), UINT8_C(48), UINT8_C(48), UINT8_C(48), UINT8_C(48), UINT8_C(48), UINT8_C(48), UINT8_C(48), UINT8_C(48), UINT8_C(48), UINT8_C(48), UINT8_C(48), UINT8_C(48), UINT8_C(48), UINT8_C(48), UINT8_C(78), UINT8_C(48), UINT8_C(48), UINT8_C(48), UINT8_C(48), UINT8_C(48), UINT8_C(48), UINT8_C(48), UINT8_C(48), UINT8_C(48), UINT8_C(48), UINT8_C(48), UINT8_C(48), UINT8_C(48), UINT8_C(48), UINT8_C(48), UINT8_C(48), UINT8_C(111), UINT8_C(48), UINT8_C(48), UINT8_C(48), UINT8_C(48), UINT8_C(48), UINT8_C(48), UINT8_C(79), UINT8_C(48), UINT8_C(48), UINT8_C(48), UINT8_C(48), UINT8_C(48), UINT8_C(77), UINT8_C(48), UINT8_C(48), UINT8_C(48), UINT8_C(48), UINT8_C(48), UINT8_C(48), UINT8_C(48), UINT8_C(48), UINT8_C(48), UINT8_C(48), UINT8_C(48), UINT8_C(48), UINT8_C(48), UINT8_C(48), UINT8_C(48), UINT8_C(48), UINT8_C(48), UINT8_C(48), UINT8_C(48), UINT8_C(48), UINT8_C(48), UINT8_C(48), UINT8_C(48), UINT8_C(48), UINT8_C(48), UINT8_C(48), UINT8_C(48), UINT8_C(48), UINT8_C(48), UINT8_C(48), UINT8_C(48), UINT8_C(48), UINT8_C(48), UINT8_C(48), UINT8_C(48), UINT8_C(48), UINT8_C(48), UINT8_C(48), UINT8_C(48), UINT8_C(48), UINT8_C(48), UINT8_C(48), UINT8_C(48), UINT8_C(48), UINT8_C(48), UINT8_C(48), UINT8_C(48), UINT8_C(81), UINT8_C(48), UINT8_C(48), UINT8_C(48), UINT8_C(48), UINT8_C(48), UINT8_C(48), UINT8_C(48), UINT8_C(48), UINT8_C(48), UINT8_C(48), UINT8_C(48), UINT8_C(48), UINT8_C(48), UINT8_C(48), UINT8_C(48), UINT8_C(77), UINT8_C(48), UINT8_C(48), UINT8_C(48), UINT8_C(48), UINT8_C(48), UINT8_C(48), UINT8_C(48), UINT8_C(48), UINT8_C(48), UINT8_C(48), UINT8_C(48), UINT8_C(48), UINT8_C(48), UINT8_C(48), UINT8_C(48), UINT8_C(48), UINT8_C(48), UINT8_C(48), UINT8_C(48), UINT8_C(48), UINT8_C(48), UINT8_C(48), UINT8_C(48), UINT8_C(48), UINT8_C(48), UINT8_C(48), UINT8_C(48), UINT8_C(48), UINT8_C(48), UINT8_C(48), UINT8_C(48), UINT8_C(48), UINT8_C(48), UINT8_C(48), UINT8_C(48), UINT8_C(48), UINT8_C(48), UINT8_C(48), UINT8_C(48), UINT8_C(111), UINT8_C(48), UINT8_C(48), UINT8_C(48), UINT8_C(48), UINT8_C(48), UINT8_C(48), UINT8_C(48), UINT8_C(48), UINT8_C(48), UINT8_C(48), UINT8_C(48), UINT8_C(48), UINT8_C(77), UINT8_C(48), UINT8_C(48), UINT8_C(48), UINT8_C(48), UINT8_C(48), UINT8_C(48), UINT8_C(48), UINT8_C(48), UINT8_C(48), UINT8_C(48), UINT8_C(48), UINT8_C(48), UINT8_C(48), UINT8_C(48), UINT8_C(48), UINT8_C(48), UINT8_C(48), UINT8_C(48), UINT8_C(48), UINT8_C(48), UINT8_C(48), UINT8_C(48), UINT8_C(48), UINT8_C(48), UINT8_C(48), UINT8_C(81), UINT8_C(48), UINT8_C(48), UINT8_C(48), UINT8_C(48), UINT8_C(48), UINT8_C(48), UINT8_C(48), UINT8_C(48), UINT8_C(48), UINT8_C(48), UINT8_C(48), UINT8_C(48), UINT8_C(48), UINT8_C(48), UINT8_C(48), UINT8_C(48), UINT8_C(48), UINT8_C(48), UINT8_C(48), UINT8_C(48), UINT8_C(48), UINT8_C(48), UINT8_C(48), UINT8_C(48), UINT8_C(48), UINT8_C(48), UINT8_C(48), UINT8_C(48), UINT8_C(48), UINT8_C(48), UINT8_C(48), UINT8_C(48), UINT8_C(48), UINT8_C(48), UINT8_C(48), UINT8_C(48), UINT8_C(48), UINT8_C(48), UINT8_C(71), UINT8_C(48), UINT8_C(48), UINT8_C(48), UINT8_C(48), UINT8_C(48), UINT8_C(48), UINT8_C(48), UINT8_C(48), UINT8_C(70), UINT8_C(70), UINT8_C(70), UINT8_C(70), UINT8_C(70), UINT8_C(70), UINT8_C(70), UINT8_C(70), UINT8_C(70), UINT8_C(70), UINT8_C(70), UINT8_C(70), UINT8_C(70), UINT8_C(48), UINT8_C(48), UINT8_C(48), UINT8_C(48), UINT8_C(48), UINT8_C(48), UINT8_C(48), UINT8_C(48), UINT8_C(48), UINT8_C(48), UINT8_C(48), UINT8_C(48), UINT8_C(48), UINT8_C(48), UINT8_C(48), UINT8_C(48), UINT8_C(48), UINT8_C(71), UINT8_C(48), UINT8_C(48), UINT8_C(70), UINT8_C(48), UINT8_C(48), UINT8_C(48), UINT8_C(48), UINT8_C(48), UINT8_C(70), UINT8_C(70), UINT8_C(70), UINT8_C(70), UINT8_C(70), UINT8_C(70), UINT8_C(70), UINT8_C(70), UINT8_C(70), UINT8_C(70), UINT8_C(70), UINT8_C(70), UINT8_C(70), UINT8_C(48), UINT8_C(48), UINT8_C(48), UINT8_C(48), UINT8_C(48), UINT8_C(48), UINT8_C(48), UINT8_C(48), UINT8_C(48), UINT8_C(48), UINT8_C(48), UINT8_C(48), UINT8_C(48), UINT8_C(48), UINT8_C(48), UINT8_C(48), UINT8_C(48), UINT8_C(68), UINT8_C(48), UINT8_C(48), UINT8_C(70), UINT8_C(48), UINT8_C(48), UINT8_C(48), UINT8_C(48), UINT8_C(48), UINT8_C(70), UINT8_C(70), UINT8_C(70), UINT8_C(70), UINT8_C(70), UINT8_C(70), UINT8_C(70), UINT8_C(70), UINT8_C(70), UINT8_C(70), UINT8_C(70), UINT8_C(70), UINT8_C(70), UINT8_C(48), UINT8_C(48), UINT8_C(48), UINT8_C(48), UINT8_C(48), UINT8_C(48), UINT8_C(69), UINT8_C(48), UINT8_C(48), UINT8_C(48), UINT8_C(48), UINT8_C(48), UINT8_C(48), UINT8_C(48), UINT8_C(48), UINT8_C(48), UINT8_C(48), UINT8_C(48), UINT8_C(48), UINT8_C(48), UINT8_C(48), UINT8_C(48), UINT8_C(48), UINT8_C(48), UINT8_C(48), UINT8_C(48), UINT8_C(70), UINT8_C(70), UINT8_C(70), UINT8_C(70), UINT8_C(70), UINT8_C(70), UINT8_C(70), UINT8_C(70), UINT8_C(70), UINT8_C(70), UINT8_C(70), UINT8_C(70), UINT8_C(70), UINT8_C(48), UINT8_C(48), UINT8_C(48), UINT8_C(48), UINT8_C(48), UINT8_C(48), UINT8_C(48), UINT8_C(48), UINT8_C(48), UINT8_C(48), UINT8_C(48), UINT8_C(48), UINT8_C(48), UINT8_C(48), UINT8_C(48), UINT8_C(48), UINT8_C(48), UINT8_C(48), UINT8_C(48), UINT8_C(48), UINT8_C(48), UINT8_C(48), UINT8_C(61), UINT8_C(48), UINT8_C(48), UINT8_C(48), UINT8_C(70), UINT8_C(70), UINT8_C(70), UINT8_C(70), UINT8_C(70), UINT8_C(70), UINT8_C(70), UINT8_C(70), UINT8_C(70), UINT8_C(70), UINT8_C(70), UINT8_C(70), UINT8_C(70), UINT8_C(48), UINT8_C(48), UINT8_C(48), UINT8_C(48), UINT8_C(48), UINT8_C(48), UINT8_C(48), UINT8_C(48), UINT8_C(48), UINT8_C(48), UINT8_C(48), UINT8_C(48), UINT8_C(48), UINT8_C(48), UINT8_C(48), UINT8_C(48), UINT8_C(48), UINT8_C(48), UINT8_C(48), UINT8_C(59), UINT8_C(48), UINT8_C(48), UINT8_C(48), UINT8_C(48), UINT8_C(48), UINT8_C(48), UINT8_C(48), UINT8_C(48), UINT8_C(48), UINT8_C(48), UINT8_C(48), UINT8_C(48), UINT8_C(48), UINT8_C(48), UINT8_C(48), UINT8_C(48), UINT8_C(48), UINT8_C(48), UINT8_C(48), UINT8_C(48), UINT8_C(48), UINT8_C(48), UINT8_C(48), UINT8_C(48), UINT8_C(48), UINT8_C(48), UINT8_C(48), UINT8_C(48), UINT8_C(48), UINT8_C(48), UINT8_C(48), UINT8_C(48), UINT8_C(48), UINT8_C(48), UINT8_C(48), UINT8_C(48), UINT8_C(48), UINT8_C(48), UINT8_C(61), UINT8_C(48), UINT8_C(48), UINT8_C(48), UINT8_C(48), UINT8_C(48), UINT8_C(48), UINT8_C(48), UINT8_C(48), UINT8_C(48), UINT8_C(48), UINT8_C(48), UINT8_C(48), UINT8_C(48), UINT8_C(48), UINT8_C(48), UINT8_C(48), UINT8_C(48), UINT8_C(48), UINT8_C(48), UINT8_C(48), UINT8_C(48), UINT8_C(48), UINT8_C(48), UINT8_C(48), UINT8_C(48), UINT8_C(48), UINT8_C(48), UINT8_C(48), UINT8_C(48), UINT8_C(48), UINT8_C(48), UINT8_C(48), UINT8_C(48), UINT8_C(48), UINT8_C(48), UINT8_C(48), UINT8_C(71), UINT8_C(48), UINT8_C(48), UINT8_C(48), UINT8_C(48), UINT8_C(48), UINT8_C(48), UINT8_C(48), UINT8_C(48), UINT8_C(48), UINT8_C(48), UINT8_C(48), UINT8_C(48), UINT8_C(48), UINT8_C(48), UINT8_C(70), UINT8_C(70), UINT8_C(70), UINT8_C(70), UINT8_C(70), UINT8_C(70), UINT8_C(70), UINT8_C(48), UINT8_C(48), UINT8_C(48), UINT8_C(48), UINT8_C(48), UINT8_C(48), UINT8_C(48), UINT8_C(48), UINT8_C(48), UINT8_C(48), UINT8_C(48), UINT8_C(48), UINT8_C(48), UINT8_C(48), UINT8_C(48), UINT8_C(48), UINT8_C(48), UINT8_C(71), UINT8_C(48), UINT8_C(48), UINT8_C(70), UINT8_C(48), UINT8_C(48), UINT8_C(48), UINT8_C(48), UINT8_C(48), UINT8_C(48), UINT8_C(48), UINT8_C(48), UINT8_C(48), UINT8_C(48), UINT8_C(48), UINT8_C(70), UINT8_C(70), UINT8_C(70), UINT8_C(70), UINT8_C(70), UINT8_C(70), UINT8_C(70), UINT8_C(48), UINT8_C(48), UINT8_C(48), UINT8_C(48), UINT8_C(48), UINT8_C(48), UINT8_C(48), UINT8_C(48), UINT8_C(48), UINT8_C(48), UINT8_C(48), UINT8_C(48), UINT8_C(48), UINT8_C(48), UINT8_C(48), UINT8_C(48), UINT8_C(48), UINT8_C(68), UINT8_C(48), UINT8_C(48), UINT8_C(70), UINT8_C(48), UINT8_C(48), UINT8_C(48), UINT8_C(48), UINT8_C(48), UINT8_C(48), UINT8_C(48), UINT8_C(48), UINT8_C(48), UINT8_C(48), UINT8_C(48), UINT8_C(70), UINT8_C(70), UINT8_C(70), UINT8_C(70), UINT8_C(70), UINT8_C(70), UINT8_C(70), UINT8_C(48), UINT8_C(48), UINT8_C(48), UINT8_C(48), UINT8_C(48), UINT8_C(48), UINT8_C(69), UINT8_C(48), UINT8_C(48), UINT8_C(48), UINT8_C(48), UINT8_C(48), UINT8_C(48), UINT8_C(48), UINT8_C(48), UINT8_C(48), UINT8_C(48), UINT8_C(48), UINT8_C(48), UINT8_C(48), UINT8_C(48), UINT8_C(48), UINT8_C(48), UINT8_C(48), UINT8_C(48), UINT8_C(48), UINT8_C(48), UINT8_C(48), UINT8_C(48), UINT8_C(48), UINT8_C(48), UINT8_C(48), UINT8_C(70), UINT8_C(70), UINT8_C(70), UINT8_C(70), UINT8_C(70), UINT8_C(70), UINT8_C(70), UINT8_C(48), UINT8_C(48), UINT8_C(48), UINT8_C(48), UINT8_C(48), UINT8_C(48), UINT8_C(48), UINT8_C(48), UINT8_C(48), UINT8_C(48), UINT8_C(48), UINT8_C(48), UINT8_C(48), UINT8_C(48), UINT8_C(48), UINT8_C(48), UINT8_C(48), UINT8_C(48), UINT8_C(48), UINT8_C(48), UINT8_C(48), UINT8_C(48), UINT8_C(61), UINT8_C(48), UINT8_C(48), UINT8_C(48), UINT8_C(48), UINT8_C(48), UINT8_C(48), UINT8_C(48), UINT8_C(48), UINT8_C(48), UINT8_C(70), UINT8_C(70), UINT8_C(70), UINT8_C(70), UINT8_C(70), UINT8_C(70), UINT8_C(70), UINT8_C(48), UINT8_C(48), UINT8_C(48) } };
+static const struct rt_array_uint8_1833 derive__derived__l17 = { { UINT8_C(48), UINT8_C(48), UINT8_C(48), UINT8_C(48), UINT8_C(48), UINT8_C(48), UINT8_C(48), UINT8_C(48), UINT8_C(48), UINT8_C(48), UINT8_C(48), UINT8_C(48), UINT8_C(48), UINT8_C(48), UINT8_C(48), UINT8_C(48), UINT8_C(48), UINT8_C(48), UINT8_C(48), UINT8_C(48), UINT8_C(48), UINT8_C(48), UINT8_C(48), UINT8_C(48), UINT8_C(48), UINT8_C(48), UINT8_C(48), UINT8_C(48), UINT8_C(48), UINT8_C(48), UINT8_C(48), UINT8_C(48), UINT8_C(48), UINT8_C(48), UINT8_C(48), UINT8_C(48), UINT8_C(48), UINT8_C(48), UINT8_C(48), UINT8_C(48), UINT8_C(48), UINT8_C(48), UINT8_C(48), UINT8_C(48), UINT8_C(48), UINT8_C(48), UINT8_C(48), UINT8_C(48), UINT8_C(48), UINT8_C(48), UINT8_C(48), UINT8_C(48), UINT8_C(48), UINT8_C(48), UINT8_C(48), UINT8_C(48), UINT8_C(48), UINT8_C(48), UINT8_C(48), UINT8_C(48), UINT8_C(48), UINT8_C(48), UINT8_C(48), UINT8_C(48), UINT8_C(48), UINT8_C(48), UINT8_C(48), UINT8_C(48), UINT8_C(48), UINT8_C(48), UINT8_C(48), UINT8_C(48), UINT8_C(48), UINT8_C(48), UINT8_C(48), UINT8_C(48), UINT8_C(48), UINT8_C(48), UINT8_C(48), UINT8_C(48), UINT8_C(48), UINT8_C(48), UINT8_C(48), UINT8_C(48), UINT8_C(48), UINT8_C(48), UINT8_C(48), UINT8_C(48), UINT8_C(48), UINT8_C(48), UINT8_C(48), UINT8_C(48), UINT8_C(48), UINT8_C(48), UINT8_C(48), UINT8_C(48), UINT8_C(48), UINT8_C(48), UINT8_C(48), UINT8_C(48), UINT8_C(48), UINT8_C(48), UINT8_C(48), UINT8_C(48), UINT8_C(48), UINT8_C(48), UINT8_C(48), UINT8_C(48), UINT8_C(48), UINT8_C(48), UINT8_C(48), UINT8_C(48), UINT8_C(48), UINT8_C(48), UINT8_C(48), UINT8_C(48), UINT8_C(48), UINT8_C(48), UINT8_C(48), UINT8_C(48), UINT8_C(48), UINT8_C(48), UINT8_C(48), UINT8_C(48), UINT8_C(48), UINT8_C(48), UINT8_C(48), UINT8_C(48), UINT8_C(48), UINT8_C(48), UINT8_C(48), UINT8_C(48), UINT8_C(48), UINT8_C(48), UINT8_C(48), UINT8_C(48), UINT8_C(48), UINT8_C(48), UINT8_C(48), UINT8_C(48), UINT8_C(48), UINT8_C(48), UINT8_C(48), UINT8_C(48), UINT8_C(48), UINT8_C(48), UINT8_C(48), UINT8_C(48), UINT8_C(48), UINT8_C(48), UINT8_C(48), UINT8_C(48), UINT8_C(48), UINT8_C(48), UINT8_C(48), UINT8_C(48), UINT8_C(48), UINT8_C(48), UINT8_C(48), UINT8_C(48), UINT8_C(48), UINT8_C(48), UINT8_C(48), UINT8_C(48), UINT8_C(48), UINT8_C(48), UINT8_C(48), UINT8_C(48), UINT8_C(48), UINT8_C(48), UINT8_C(48), UINT8_C(48), UINT8_C(48), UINT8_C(48), UINT8_C(48), UINT8_C(48), UINT8_C(48), UINT8_C(48), UINT8_C(48), UINT8_C(48), UINT8_C(48), UINT8_C(48), UINT8_C(48), UINT8_C(48), UINT8_C(48), UINT8_C(48), UINT8_C(48), UINT8_C(48), UINT8_C(48), UINT8_C(48), UINT8_C(48), UINT8_C(48), UINT8_C(48), UINT8_C(48), UINT8_C(48), UINT8_C(48), UINT8_C(48), UINT8_C(48), UINT8_C(48), UINT8_C(48), UINT8_C(48), UINT8_C(48), UINT8_C(48), UINT8_C(48), UINT8_C(48), UINT8_C(48), UINT8_C(48), UINT8_C(48), UINT8_C(48), UINT8_C(48), UINT8_C(48), UINT8_C(48), UINT8_C(48), UINT8_C(48), UINT8_C(48), UINT8_C(48), UINT8_C(48), UINT8_C(48), UINT8_C(48), UINT8_C(48), UINT8_C(48), UINT8_C(48), UINT8_C(48), UINT8_C(48), UINT8_C(48), UINT8_C(48), UINT8_C(48), UINT8_C(48), UINT8_C(48), UINT8_C(48), UINT8_C(48), UINT8_C(48), UINT8_C(48), UINT8_C(48), UINT8_C(48), UINT8_C(48), UINT8_C(48), UINT8_C(48), UINT8_C(48), UINT8_C(48), UINT8_C(48), UINT8_C(48), UINT8_C(48), UINT8_C(48), UINT8_C(48), UINT8_C(48), UINT8_C(48), UINT8_C(48), UINT8_C(48), UINT8_C(48), UINT8_C(48), UINT8_C(48), UINT8_C(48), UINT8_C(48), UINT8_C(48), UINT8_C(48), UINT8_C(48), UINT8_C(48), UINT8_C(48), UINT8_C(48), UINT8_C(48), UINT8_C(48), UINT8_C(48), UINT8_C(48), UINT8_C(48), UINT8_C(48), UINT8_C(48), UINT8_C(48), UINT8_C(48), UINT8_C(48), UINT8_C(48), UINT8_C(48), UINT8_C(48), UINT8_C(48), UINT8_C(48), UINT8_C(48), UINT8_C(48), UINT8_C(48), UINT8_C(48), UINT8_C(48), UINT8_C(48), UINT8_C(48), UINT8_C(48), UINT8_C(48), UINT8_C(48), UINT8_C(48), UINT8_C(48), UINT8_C(48), UINT8_C(48), UINT8_C(48), UINT8_C(48), UINT8_C(48), UINT8_C(48), UINT8_C(48), UINT8_C(48), UINT8_C(48), UINT8_C(48), UINT8_C(48), UINT8_C(48), UINT8_C(48), UINT8_C(48), UINT8_C(48), UINT8_C(48), UINT8_C(48), UINT8_C(48), UINT8_C(48), UINT8_C(48), UINT8_C(48), UINT8_C(48), UINT8_C(48), UINT8_C(48), UINT8_C(48), UINT8_C(48), UINT8_C(48), UINT8_C(48), UINT8_C(48), UINT8_C(48), UINT8_C(48), UINT8_C(48), UINT8_C(48), UINT8_C(48), UINT8_C(48), UINT8_C(48), UINT8_C(48), UINT8_C(48), UINT8_C(48), UINT8_C(48), UINT8_C(48), UINT8_C(48), UINT8_C(48), UINT8_C(48), UINT8_C(48), UINT8_C(48), UINT8_C(48), UINT8_C(48), UINT8_C(48), UINT8_C(48), UINT8_C(48), UINT8_C(48), UINT8_C(48), UINT8_C(48), UINT8_C(48), UINT8_C(48), UINT8_C(48), UINT8_C(48), UINT8_C(48), UINT8_C(48), UINT8_C(48), UINT8_C(48), UINT8_C(48), UINT8_C(48), UINT8_C(48), UINT8_C(48), UINT8_C(48), UINT8_C(48), UINT8_C(48), UINT8_C(48), UINT8_C(48), UINT8_C(48), UINT8_C(48), UINT8_C(48), UINT8_C(48), UINT8_C(48), UINT8_C(48), UINT8_C(48), UINT8_C(48), UINT8_C(48), UINT8_C(48), UINT8_C(48), UINT8_C(48), UINT8_C(48), UINT8_C(48), UINT8_C(48), UINT8_C(48), UINT8_C(48), UINT8_C(48), UINT8_C(48), UINT8_C(48), UINT8_C(48), UINT8_C(48), UINT8_C(48), UINT8_C(48), UINT8_C(48), UINT8_C(48), UINT8_C(48), UINT8_C(48), UINT8_C(48), UINT8_C(48), UINT8_C(48), UINT8_C(48), UINT8_C(48), UINT8_C(48), UINT8_C(48), UINT8_C(48), UINT8_C(48), UINT8_C(48), UINT8_C(48), UINT8_C(48), UINT8_C(48), UINT8_C(48), UINT8_C(48), UINT8_C(48), UINT8_C(48), UINT8_C(48), UINT8_C(48), UINT8_C(48), UINT8_C(48), UINT8_C(48), UINT8_C(48), UINT8_C(48), UINT8_C(48), UINT8_C(48), UINT8_C(48), UINT8_C(48), UINT8_C(48), UINT8_C(48), UINT8_C(48), UINT8_C(48), UINT8_C(48), UINT8_C(48), UINT8_C(48), UINT8_C(48), UINT8_C(48), UINT8_C(48), UINT8_C(48), UINT8_C(48), UINT8_C(48), UINT8_C(48), UINT8_C(48), UINT8_C(48), UINT8_C(48), UINT8_C(48), UINT8_C(48), UINT8_C(48), UINT8_C(48), UINT8_C(48), UINT8_C(48), UINT8_C(48), UINT8_C(48), UINT8_C(48), UINT8_C(48), UINT8_C(48), UINT8_C(48), UINT8_C(48), UINT8_C(48), UINT8_C(48), UINT8_C(48), UINT8_C(48), UINT8_C(48), UINT8_C(48), UINT8_C(48), UINT8_C(48), UINT8_C(48), UINT8_C(48), UINT8_C(48), UINT8_C(48), UINT8_C(48), UINT8_C(48), UINT8_C(48), UINT8_C(48), UINT8_C(48), UINT8_C(48), UINT8_C(48), UINT8_C(48), UINT8_C(48), UINT8_C(48), UINT8_C(48), UINT8_C(48), UINT8_C(48), UINT8_C(48), UINT8_C(48), UINT8_C(48), UINT8_C(48), UINT8_C(48), UINT8_C(48), UINT8_C(48), UINT8_C(48), UINT8_C(48), UINT8_C(48), UINT8_C(48), UINT8_C(48), UINT8_C(48), UINT8_C(48), UINT8_C(88), UINT8_C(48), UINT8_C(48), UINT8_C(48), UINT8_C(48), UINT8_C(48), UINT8_C(48), UINT8_C(48), UINT8_C(48), UINT8_C(48), UINT8_C(48), UINT8_C(48), UINT8_C(48), UINT8_C(48), UINT8_C(48), UINT8_C(48), UINT8_C(48), UINT8_C(48), UINT8_C(48), UINT8_C(48), UINT8_C(48), UINT8_C(48), UINT8_C(48), UINT8_C(48), UINT8_C(48), UINT8_C(48), UINT8_C(86), UINT8_C(48), UINT8_C(48), UINT8_C(48), UINT8_C(48), UINT8_C(48), UINT8_C(48), UINT8_C(48), UINT8_C(48), UINT8_C(48), UINT8_C(48), UINT8_C(48), UINT8_C(48), UINT8_C(48), UINT8_C(48), UINT8_C(48), UINT8_C(48), UINT8_C(48), UINT8_C(48), UINT8_C(48), UINT8_C(48), UINT8_C(48), UINT8_C(48), UINT8_C(48), UINT8_C(48), UINT8_C(48), UINT8_C(48), UINT8_C(48), UINT8_C(48), UINT8_C(48), UINT8_C(48), UINT8_C(48), UINT8_C(48), UINT8_C(48), UINT8_C(48), UINT8_C(48), UINT8_C(48), UINT8_C(48), UINT8_C(48), UINT8_C(48), UINT8_C(48), UINT8_C(48), UINT8_C(48), UINT8_C(48), UINT8_C(48), UINT8_C(48), UINT8_C(48), UINT8_C(48), UINT8_C(48), UINT8_C(48), UINT8_C(85), UINT8_C(48), UINT8_C(48), UINT8_C(48), UINT8_C(48), UINT8_C(48), UINT8_C(48), UINT8_C(87), UINT8_C(48), UINT8_C(48), UINT8_C(48), UINT8_C(48), UINT8_C(48), UINT8_C(48), UINT8_C(48), UINT8_C(48), UINT8_C(48), UINT8_C(48), UINT8_C(48), UINT8_C(48), UINT8_C(48), UINT8_C(48), UINT8_C(48), UINT8_C(48), UINT8_C(48), UINT8_C(48), UINT8_C(48), UINT8_C(48), UINT8_C(48), UINT8_C(48), UINT8_C(48), UINT8_C(48), UINT8_C(48), UINT8_C(48), UINT8_C(48), UINT8_C(48), UINT8_C(48), UINT8_C(48), UINT8_C(48), UINT8_C(48), UINT8_C(48), UINT8_C(48), UINT8_C(48), UINT8_C(48), UINT8_C(48), UINT8_C(48), UINT8_C(48), UINT8_C(48), UINT8_C(48), UINT8_C(48), UINT8_C(48), UINT8_C(48), UINT8_C(48), UINT8_C(48), UINT8_C(48), UINT8_C(48), UINT8_C(48), UINT8_C(48), UINT8_C(48), UINT8_C(48), UINT8_C(48), UINT8_C(48), UINT8_C(48), UINT8_C(48), UINT8_C(48), UINT8_C(48), UINT8_C(48), UINT8_C(48), UINT8_C(48), UINT8_C(48), UINT8_C(48), UINT8_C(48), UINT8_C(48), UINT8_C(48), UINT8_C(48), UINT8_C(48), UINT8_C(48), UINT8_C(48), UINT8_C(48), UINT8_C(48), UINT8_C(48), UINT8_C(48), UINT8_C(48), UINT8_C(48), UINT8_C(48), UINT8_C(87), UINT8_C(48), UINT8_C(48), UINT8_C(48), UINT8_C(48), UINT8_C(48), UINT8_C(48), UINT8_C(48), UINT8_C(48), UINT8_C(48), UINT8_C(48), UINT8_C(48), UINT8_C(48), UINT8_C(48), UINT8_C(48), UINT8_C(48), UINT8_C(48), UINT8_C(48), UINT8_C(48), UINT8_C(48), UINT8_C(48), UINT8_C(48), UINT8_C(48), UINT8_C(48), UINT8_C(48), UINT8_C(48), UINT8_C(48), UINT8_C(48), UINT8_C(48), UINT8_C(48), UINT8_C(48), UINT8_C(48), UINT8_C(48), UINT8_C(48), UINT8_C(48), UINT8_C(48), UINT8_C(48), UINT8_C(48), UINT8_C(48), UINT8_C(48), UINT8_C(48), UINT8_C(48), UINT8_C(48), UINT8_C(48), UINT8_C(48), UINT8_C(48), UINT8_C(48), UINT8_C(48), UINT8_C(48), UINT8_C(48), UINT8_C(48), UINT8_C(48), UINT8_C(48), UINT8_C(48), UINT8_C(48), UINT8_C(48), UINT8_C(48), UINT8_C(48), UINT8_C(48), UINT8_C(48), UINT8_C(48), UINT8_C(48), UINT8_C(48), UINT8_C(48), UINT8_C(48), UINT8_C(48), UINT8_C(48), UINT8_C(48), UINT8_C(48), UINT8_C(48), UINT8_C(48), UINT8_C(48), UINT8_C(48), UINT8_C(48), UINT8_C(48), UINT8_C(48), UINT8_C(48), UINT8_C(48), UINT8_C(87), UINT8_C(48), UINT8_C(48), UINT8_C(48), UINT8_C(48), UINT8_C(48), UINT8_C(48), UINT8_C(48), UINT8_C(48), UINT8_C(48), UINT8_C(48), UINT8_C(48), UINT8_C(48), UINT8_C(48), UINT8_C(48), UINT8_C(48), UINT8_C(48), UINT8_C(48), UINT8_C(48), UINT8_C(48), UINT8_C(48), UINT8_C(48), UINT8_C(48), UINT8_C(48), UINT8_C(48), UINT8_C(48), UINT8_C(48), UINT8_C(48), UINT8_C(48), UINT8_C(48), UINT8_C(48), UINT8_C(48), UINT8_C(83), UINT8_C(48), UINT8_C(48), UINT8_C(48), UINT8_C(48), UINT8_C(48), UINT8_C(48), UINT8_C(48), UINT8_C(48), UINT8_C(48), UINT8_C(48), UINT8_C(48), UINT8_C(48), UINT8_C(48), UINT8_C(48), UINT8_C(48), UINT8_C(48), UINT8_C(48), UINT8_C(48), UINT8_C(48), UINT8_C(48), UINT8_C(48), UINT8_C(48), UINT8_C(48), UINT8_C(48), UINT8_C(48), UINT8_C(48), UINT8_C(48), UINT8_C(48), UINT8_C(48), UINT8_C(48), UINT8_C(48), UINT8_C(48), UINT8_C(48), UINT8_C(48), UINT8_C(48), UINT8_C(48), UINT8_C(48), UINT8_C(48), UINT8_C(48), UINT8_C(48), UINT8_C(48), UINT8_C(48), UINT8_C(48), UINT8_C(48), UINT8_C(48), UINT8_C(48), UINT8_C(48), UINT8_C(48), UINT8_C(48), UINT8_C(48), UINT8_C(48), UINT8_C(48), UINT8_C(48), UINT8_C(48), UINT8_C(48), UINT8_C(48), UINT8_C(48), UINT8_C(48), UINT8_C(48), UINT8_C(48), UINT8_C(48), UINT8_C(48), UINT8_C(48), UINT8_C(48), UINT8_C(48), UINT8_C(48), UINT8_C(48), UINT8_C(48), UINT8_C(48), UINT8_C(48), UINT8_C(48), UINT8_C(48), UINT8_C(48), UINT8_C(48), UINT8_C(48), UINT8_C(48), UINT8_C(48), UINT8_C(48), UINT8_C(48), UINT8_C(89), UINT8_C(48), UINT8_C(48), UINT8_C(48), UINT8_C(48), UINT8_C(48), UINT8_C(48), UINT8_C(48), UINT8_C(48), UINT8_C(48), UINT8_C(48), UINT8_C(48), UINT8_C(48), UINT8_C(48), UINT8_C(48), UINT8_C(48), UINT8_C(48), UINT8_C(48), UINT8_C(48), UINT8_C(48), UINT8_C(48), UINT8_C(48), UINT8_C(48), UINT8_C(48), UINT8_C(48), UINT8_C(48), UINT8_C(48), UINT8_C(48), UINT8_C(48), UINT8_C(48), UINT8_C(48), UINT8_C(48), UINT8_C(48), UINT8_C(48), UINT8_C(48), UINT8_C(48), UINT8_C(48), UINT8_C(83), UINT8_C(48), UINT8_C(48), UINT8_C(48), UINT8_C(48), UINT8_C(48), UINT8_C(48), UINT8_C(48), UINT8_C(48), UINT8_C(48), UINT8_C(48), UINT8_C(48), UINT8_C(48), UINT8_C(48), UINT8_C(48), UINT8_C(48), UINT8_C(48), UINT8_C(48), UINT8_C(48), UINT8_C(48), UINT8_C(48), UINT8_C(48), UINT8_C(48), UINT8_C(48), UINT8_C(48), UINT8_C(48), UINT8_C(48), UINT8_C(48), UINT8_C(48), UINT8_C(48), UINT8_C(48), UINT8_C(48), UINT8_C(48), UINT8_C(48), UINT8_C(48), UINT8_C(48), UINT8_C(48), UINT8_C(48), UINT8_C(48), UINT8_C(48), UINT8_C(48), UINT8_C(48), UINT8_C(48), UINT8_C(48), UINT8_C(48), UINT8_C(48), UINT8_C(48), UINT8_C(48), UINT8_C(48), UINT8_C(48), UINT8_C(48), UINT8_C(48), UINT8_C(48), UINT8_C(48), UINT8_C(48), UINT8_C(48), UINT8_C(48), UINT8_C(48), UINT8_C(48), UINT8_C(48), UINT8_C(48), UINT8_C(48), UINT8_C(48), UINT8_C(48), UINT8_C(48), UINT8_C(48), UINT8_C(48), UINT8_C(48), UINT8_C(48), UINT8_C(48), UINT8_C(48), UINT8_C(48), UINT8_C(48), UINT8_C(48), UINT8_C(48), UINT8_C(48), UINT8_C(48), UINT8_C(48), UINT8_C(84), UINT8_C(48), UINT8_C(48), UINT8_C(48), UINT8_C(48), UINT8_C(48), UINT8_C(48), UINT8_C(48), UINT8_C(48), UINT8_C(48), UINT8_C(48), UINT8_C(48), UINT8_C(48), UINT8_C(48), UINT8_C(48), UINT8_C(48), UINT8_C(48), UINT8_C(48), UINT8_C(48), UINT8_C(48), UINT8_C(48), UINT8_C(48), UINT8_C(48), UINT8_C(48), UINT8_C(48), UINT8_C(48), UINT8_C(48), UINT8_C(48), UINT8_C(48), UINT8_C(48), UINT8_C(48), UINT8_C(48), UINT8_C(48), UINT8_C(48), UINT8_C(48), UINT8_C(48), UINT8_C(48), UINT8_C(48), UINT8_C(48), UINT8_C(48), UINT8_C(48), UINT8_C(48), UINT8_C(48), UINT8_C(48), UINT8_C(48), UINT8_C(48), UINT8_C(48), UINT8_C(48), UINT8_C(48), UINT8_C(48), UINT8_C(48), UINT8_C(48), UINT8_C(48), UINT8_C(48), UINT8_C(48), UINT8_C(48), UINT8_C(48), UINT8_C(48), UINT8_C(48), UINT8_C(48), UINT8_C(48), UINT8_C(48), UINT8_C(48), UINT8_C(48), UINT8_C(48), UINT8_C(48), UINT8_C(48), UINT8_C(48), UINT8_C(48), UINT8_C(48), UINT8_C(48), UINT8_C(48), UINT8_C(48), UINT8_C(48), UINT8_C(48), UINT8_C(48), UINT8_C(48), UINT8_C(48), UINT8_C(48), UINT8_C(48), UINT8_C(48), UINT8_C(48), UINT8_C(48), UINT8_C(48), UINT8_C(48), UINT8_C(48), UINT8_C(48), UINT8_C(48), UINT8_C(48), UINT8_C(48), UINT8_C(48), UINT8_C(48), UINT8_C(48), UINT8_C(48), UINT8_C(48), UINT8_C(48), UINT8_C(48), UINT8_C(48), UINT8_C(48), UINT8_C(48), UINT8_C(48), UINT8_C(48), UINT8_C(48), UINT8_C(48), UINT8_C(48), UINT8_C(48), UINT8_C(48), UINT8_C(48), UINT8_C(48), UINT8_C(48), UINT8_C(48), UINT8_C(48), UINT8_C(48), UINT8_C(48), UINT8_C(48), UINT8_C(48), UINT8_C(48), UINT8_C(83), UINT8_C(48), UINT8_C(48), UINT8_C(48), UINT8_C(48), UINT8_C(48), UINT8_C(48), UINT8_C(48), UINT8_C(48), UINT8_C(48), UINT8_C(48), UINT8_C(48), UINT8_C(48), UINT8_C(48), UINT8_C(48), UINT8_C(48), UINT8_C(48), UINT8_C(48), UINT8_C(48), UINT8_C(48), UINT8_C(48), UINT8_C(48), UINT8_C(48), UINT8_C(48), UINT8_C(48), UINT8_C(48), UINT8_C(48), UINT8_C(48), UINT8_C(48), UINT8_C(48), UINT8_C(48), UINT8_C(48), UINT8_C(48), UINT8_C(48), UINT8_C(48), UINT8_C(48), UINT8_C(48), UINT8_C(48), UINT8_C(48), UINT8_C(48), UINT8_C(48), UINT8_C(48), UINT8_C(48), UINT8_C(48), UINT8_C(48), UINT8_C(48), UINT8_C(48), UINT8_C(48), UINT8_C(48), UINT8_C(48), UINT8_C(48), UINT8_C(48), UINT8_C(48), UINT8_C(48), UINT8_C(48), UINT8_C(48), UINT8_C(48), UINT8_C(48), UINT8_C(48), UINT8_C(48), UINT8_C(48), UINT8_C(48), UINT8_C(48), UINT8_C(48), UINT8_C(48), UINT8_C(48), UINT8_C(48), UINT8_C(48), UINT8_C(48), UINT8_C(48), UINT8_C(48), UINT8_C(48), UINT8_C(48), UINT8_C(48), UINT8_C(48), UINT8_C(48), UINT8_C(48), UINT8_C(48), UINT8_C(48), UINT8_C(48), UINT8_C(48), UINT8_C(48), UINT8_C(48), UINT8_C(48), UINT8_C(48), UINT8_C(48), UINT8_C(48), UINT8_C(48), UINT8_C(48), UINT8_C(48), UINT8_C(48), UINT8_C(48), UINT8_C(48), UINT8_C(48), UINT8_C(48), UINT8_C(48), UINT8_C(48), UINT8_C(48), UINT8_C(48), UINT8_C(48), UINT8_C(48), UINT8_C(48), UINT8_C(48), UINT8_C(48), UINT8_C(48), UINT8_C(48), UINT8_C(48), UINT8_C(48), UINT8_C(48), UINT8_C(48), UINT8_C(48), UINT8_C(48), UINT8_C(48), UINT8_C(48), UINT8_C(48), UINT8_C(48), UINT8_C(48), UINT8_C(48), UINT8_C(48), UINT8_C(48), UINT8_C(48), UINT8_C(48), UINT8_C(48), UINT8_C(48), UINT8_C(48), UINT8_C(48), UINT8_C(48), UINT8_C(48), UINT8_C(48), UINT8_C(48), UINT8_C(48), UINT8_C(48), UINT8_C(48), UINT8_C(48), UINT8_C(48), UINT8_C(48), UINT8_C(48), UINT8_C(48), UINT8_C(48), UINT8_C(48), UINT8_C(48), UINT8_C(48), UINT8_C(48), UINT8_C(48), UINT8_C(48), UINT8_C(48), UINT8_C(48), UINT8_C(48), UINT8_C(48), UINT8_C(48), UINT8_C(48), UINT8_C(48), UINT8_C(48), UINT8_C(48), UINT8_C(48), UINT8_C(48), UINT8_C(48), UINT8_C(48), UINT8_C(48), UINT8_C(48), UINT8_C(48), UINT8_C(48), UINT8_C(48), UINT8_C(48), UINT8_C(48), UINT8_C(48), UINT8_C(48), UINT8_C(48), UINT8_C(48), UINT8_C(48), UINT8_C(48), UINT8_C(48), UINT8_C(48), UINT8_C(48), UINT8_C(48), UINT8_C(48), UINT8_C(48), UINT8_C(48), UINT8_C(48), UINT8_C(48), UINT8_C(48), UINT8_C(48), UINT8_C(48), UINT8_C(48), UINT8_C(48), UINT8_C(48), UINT8_C(48), UINT8_C(48), UINT8_C(48), UINT8_C(48), UINT8_C(48), UINT8_C(48), UINT8_C(48), UINT8_C(48), UINT8_C(48), UINT8_C(82), UINT8_C(48), UINT8_C(48), UINT8_C(48), UINT8_C(48), UINT8_C(48), UINT8_C(48), UINT8_C(48), UINT8_C(48), UINT8_C(48), UINT8_C(48), UINT8_C(48), UINT8_C(48), UINT8_C(48), UINT8_C(48), UINT8_C(48), UINT8_C(48), UINT8_C(48), UINT8_C(48), UINT8_C(48), UINT8_C(48), UINT8_C(48), UINT8_C(48), UINT8_C(48), UINT8_C(48), UINT8_C(48), UINT8_C(48), UINT8_C(48), UINT8_C(48), UINT8_C(48), UINT8_C(48), UINT8_C(48), UINT8_C(48), UINT8_C(48), UINT8_C(48), UINT8_C(48), UINT8_C(48), UINT8_C(48), UINT8_C(48), UINT8_C(48), UINT8_C(48), UINT8_C(48), UINT8_C(48), UINT8_C(48), UINT8_C(48), UINT8_C(48), UINT8_C(48), UINT8_C(48), UINT8_C(48), UINT8_C(48), UINT8_C(48), UINT8_C(48), UINT8_C(48), UINT8_C(48), UINT8_C(48), UINT8_C(48), UINT8_C(48), UINT8_C(48), UINT8_C(48), UINT8_C(48), UINT8_C(48), UINT8_C(48), UINT8_C(48), UINT8_C(48), UINT8_C(48), UINT8_C(48), UINT8_C(48), UINT8_C(48), UINT8_C(48), UINT8_C(48), UINT8_C(48), UINT8_C(48), UINT8_C(48), UINT8_C(48), UINT8_C(48), UINT8_C(48), UINT8_C(48), UINT8_C(48), UINT8_C(48), UINT8_C(48), UINT8_C(48), UINT8_C(48), UINT8_C(48), UINT8_C(48), UINT8_C(48), UINT8_C(48), UINT8_C(48), UINT8_C(48), UINT8_C(48), UINT8_C(48), UINT8_C(48), UINT8_C(48), UINT8_C(48), UINT8_C(48), UINT8_C(48), UINT8_C(48), UINT8_C(48), UINT8_C(48), UINT8_C(48), UINT8_C(48), UINT8_C(48), UINT8_C(48), UINT8_C(48), UINT8_C(48), UINT8_C(48), UINT8_C(48), UINT8_C(48), UINT8_C(48), UINT8_C(48), UINT8_C(48), UINT8_C(48), UINT8_C(48), UINT8_C(48), UINT8_C(48), UINT8_C(48), UINT8_C(48), UINT8_C(48), UINT8_C(48), UINT8_C(48), UINT8_C(48), UINT8_C(48), UINT8_C(48), UINT8_C(48), UINT8_C(48), UINT8_C(48), UINT8_C(48), UINT8_C(48), UINT8_C(90), UINT8_C(90), UINT8_C(90), UINT8_C(90), UINT8_C(90), UINT8_C(90), UINT8_C(83), UINT8_C(83), UINT8_C(83), UINT8_C(83), UINT8_C(83), UINT8_C(83), UINT8_C(83), UINT8_C(48), UINT8_C(48), UINT8_C(48), UINT8_C(48), UINT8_C(48), UINT8_C(48), UINT8_C(48), UINT8_C(48), UINT8_C(48), UINT8_C(48), UINT8_C(48), UINT8_C(48), UINT8_C(48), UINT8_C(48), UINT8_C(48), UINT8_C(48), UINT8_C(48), UINT8_C(48), UINT8_C(48), UINT8_C(48), UINT8_C(84), UINT8_C(48), UINT8_C(48), UINT8_C(48), UINT8_C(48), UINT8_C(48), UINT8_C(91), UINT8_C(91), UINT8_C(91), UINT8_C(91), UINT8_C(91), UINT8_C(91), UINT8_C(84), UINT8_C(84), UINT8_C(84), UINT8_C(84), UINT8_C(84), UINT8_C(84), UINT8_C(84), UINT8_C(48), UINT8_C(48), UINT8_C(48), UINT8_C(48), UINT8_C(48), UINT8_C(48), UINT8_C(48), UINT8_C(48), UINT8_C(48), UINT8_C(48), UINT8_C(48), UINT8_C(48), UINT8_C(48), UINT8_C(48), UINT8_C(48), UINT8_C(48), UINT8_C(48), UINT8_C(48), UINT8_C(48), UINT8_C(48), UINT8_C(85), UINT8_C(48), UINT8_C(48), UINT8_C(48), UINT8_C(48), UINT8_C(48), UINT8_C(92), UINT8_C(92), UINT8_C(92), UINT8_C(92), UINT8_C(92), UINT8_C(92), UINT8_C(85), UINT8_C(85), UINT8_C(85), UINT8_C(85), UINT8_C(85), UINT8_C(85), UINT8_C(85), UINT8_C(48), UINT8_C(48), UINT8_C(48), UINT8_C(48), UINT8_C(48), UINT8_C(48), UINT8_C(48), UINT8_C(48), UINT8_C(48), UINT8_C(48), UINT8_C(48), UINT8_C(48), UINT8_C(48), UINT8_C(48), UINT8_C(48), UINT8_C(48), UINT8_C(48), UINT8_C(48), UINT8_C(48), UINT8_C(48), UINT8_C(48), UINT8_C(48), UINT8_C(48), UINT8_C(48), UINT8_C(48), UINT8_C(48), UINT8_C(93), UINT8_C(93), UINT8_C(93), UINT8_C(93), UINT8_C(93), UINT8_C(93), UINT8_C(86), UINT8_C(86), UINT8_C(86), UINT8_C(86), UINT8_C(86), UINT8_C(86), UINT8_C(86), UINT8_C(48), UINT8_C(48), UINT8_C(48), UINT8_C(48), UINT8_C(48), UINT8_C(48), UINT8_C(48), UINT8_C(48), UINT8_C(48), UINT8_C(48), UINT8_C(48), UINT8_C(48), UINT8_C(48), UINT8_C(48), UINT8_C(48), UINT8_C(48), UINT8_C(48), UINT8_C(48), UINT8_C(48), UINT8_C(48), UINT8_C(48), UINT8_C(48), UINT8_C(48), UINT8_C(48), UINT8_C(48), UINT8_C(48), UINT8_C(94), UINT8_C(94), UINT8_C(94), UINT8_C(94), UINT8_C(94), UINT8_C(94), UINT8_C(87), UINT8_C(87), UINT8_C(87), UINT8_C(87), UINT8_C(87), UINT8_C(87), UINT8_C(87), UINT8_C(48), UINT8_C(48), UINT8_C(48), UINT8_C(48), UINT8_C(48), UINT8_C(48), UINT8_C(48), UINT8_C(48), UINT8_C(48), UINT8_C(48), UINT8_C(48), UINT8_C(48), UINT8_C(48), UINT8_C(48), UINT8_C(48), UINT8_C(48), UINT8_C(48), UINT8_C(48), UINT8_C(48), UINT8_C(48), UINT8_C(48), UINT8_C(48), UINT8_C(48), UINT8_C(48), UINT8_C(48), UINT8_C(48), UINT8_C(48), UINT8_C(48), UINT8_C(48), UINT8_C(48), UINT8_C(48), UINT8_C(48), UINT8_C(48), UINT8_C(48), UINT8_C(48), UINT8_C(48), UINT8_C(48), UINT8_C(48), UINT8_C(48), UINT8_C(48), UINT8_C(48), UINT8_C(48), UINT8_C(48), UINT8_C(48), UINT8_C(48), UINT8_C(48), UINT8_C(48), UINT8_C(48), UINT8_C(48), UINT8_C(48), UINT8_C(48), UINT8_C(48), UINT8_C(48), UINT8_C(48), UINT8_C(48), UINT8_C(48), UINT8_C(48), UINT8_C(48), UINT8_C(48), UINT8_C(48), UINT8_C(48), UINT8_C(48), UINT8_C(48), UINT8_C(48), UINT8_C(48), UINT8_C(48), UINT8_C(48), UINT8_C(48), UINT8_C(48), UINT8_C(48), UINT8_C(48), UINT8_C(48), UINT8_C(48), UINT8_C(48), UINT8_C(48), UINT8_C(48), UINT8_C(48), UINT8_C(48), UINT8_C(48), UINT8_C(48), UINT8_C(48), UINT8_C(48), UINT8_C(48), UINT8_C(48), UINT8_C(48), UINT8_C(48), UINT8_C(48), UINT8_C(48), UINT8_C(48), UINT8_C(48), UINT8_C(48), UINT8_C(48), UINT8_C(48), UINT8_C(48), UINT8_C(48), UINT8_C(48), UINT8_C(48), UINT8_C(48), UINT8_C(48), UINT8_C(48), UINT8_C(48), UINT8_C(48), UINT8_C(48), UINT8_C(48), UINT8_C(48), UINT8_C(48), UINT8_C(48), UINT8_C(48), UINT8_C(48), UINT8_C(48), UINT8_C(90), UINT8_C(90), UINT8_C(90), UINT8_C(90), UINT8_C(90), UINT8_C(83), UINT8_C(83), UINT8_C(48), UINT8_C(48), UINT8_C(48), UINT8_C(48), UINT8_C(48), UINT8_C(48), UINT8_C(48), UINT8_C(48), UINT8_C(48), UINT8_C(48), UINT8_C(48), UINT8_C(48), UINT8_C(48), UINT8_C(48), UINT8_C(48), UINT8_C(48), UINT8_C(48), UINT8_C(48), UINT8_C(48), UINT8_C(48), UINT8_C(84), UINT8_C(48), UINT8_C(48), UINT8_C(48), UINT8_C(48), UINT8_C(48), UINT8_C(48), UINT8_C(48), UINT8_C(48), UINT8_C(48), UINT8_C(48), UINT8_C(48), UINT8_C(91), UINT8_C(91), UINT8_C(91), UINT8_C(91), UINT8_C(91), UINT8_C(84), UINT8_C(84), UINT8_C(48), UINT8_C(48), UINT8_C(48), UINT8_C(48), UINT8_C(48), UINT8_C(48), UINT8_C(48), UINT8_C(48), UINT8_C(48), UINT8_C(48), UINT8_C(48), UINT8_C(48), UINT8_C(48), UINT8_C(48), UINT8_C(48), UINT8_C(48), UINT8_C(48), UINT8_C(48), UINT8_C(48), UINT8_C(48), UINT8_C(85), UINT8_C(48), UINT8_C(48), UINT8_C(48), UINT8_C(48), UINT8_C(48), UINT8_C(48), UINT8_C(48), UINT8_C(48), UINT8_C(48), UINT8_C(48), UINT8_C(48), UINT8_C(92), UINT8_C(92), UINT8_C(92), UINT8_C(92), UINT8_C(92), UINT8_C(85), UINT8_C(85), UINT8_C(48), UINT8_C(48), UINT8_C(48), UINT8_C(48), UINT8_C(48), UINT8_C(48), UINT8_C(48), UINT8_C(48), UINT8_C(48), UINT8_C(48), UINT8_C(48), UINT8_C(48), UINT8_C(48), UINT8_C(48), UINT8_C(48), UINT8_C(48), UINT8_C(48), UINT8_C(48), UINT8_C(48), UINT8_C(48), UINT8_C(48), UINT8_C(48), UINT8_C(48), UINT8_C(48), UINT8_C(48), UINT8_C(48), UINT8_C(48), UINT8_C(48), UINT8_C(48), UINT8_C(48), UINT8_C(48), UINT8_C(48), UINT8_C(93), UINT8_C(93), UINT8_C(93), UINT8_C(93), UINT8_C(93), UINT8_C(86), UINT8_C(86), UINT8_C(48), UINT8_C(48), UINT8_C(48), UINT8_C(48), UINT8_C(48), UINT8_C(48), UINT8_C(48), UINT8_C(48), UINT8_C(48), UINT8_C(48), UINT8_C(48), UINT8_C(48), UINT8_C(48), UINT8_C(48), UINT8_C(48), UINT8_C(48), UINT8_C(48), UINT8_C(48), UINT8_C(48), UINT8_C(48), UINT8_C(48), UINT8_C(48), UINT8_C(48), UINT8_C(48), UINT8_C(48), UINT8_C(48), UINT8_C(48), UINT8_C(48), UINT8_C(48), UINT8_C(48), UINT8_C(48), UINT8_C(48), UINT8_C(94), UINT8_C(94), UINT8_C(94), UINT8_C(94), UINT8_C(94), UINT8_C(87), UINT8_C(87), UINT8_C(48), UINT8_C(48), UINT8_C(48) } };
+static const struct rt_array_uint8_1833 derive__derived__l18 = { { UINT8_C(95), UINT8_C(95), UINT8_C(95), UINT8_C(95), UINT8_C(95), UINT8_C(95), UINT8_C(95), UINT8_C(95), UINT8_C(95), UINT8_C(95), UINT8_C(95), UINT8_C(95), UINT8_C(95), UINT8_C(95), UINT8_C(95), UINT8_C(95), UINT8_C(95), UINT8_C(95), UINT8_C(95), UINT8_C(95), UINT8_C(95), UINT8_C(95), UINT8_C(95), UINT8_C(95), UINT8_C(95), UINT8_C(95), UINT8_C(95), UINT8_C(95), UINT8_C(95), UINT8_C(95), UINT8_C(95), UINT8_C(95), UINT8_C(95), UINT8_C(95), UINT8_C(95), UINT8_C(95), UINT8_C(95), UINT8_C(95), UINT8_C(95), UINT8_C(95), UINT8_C(95), UINT8_C(95), UINT8_C(95), UINT8_C(95), UINT8_C(95), UINT8_C(95), UINT8_C(95), UINT8_C(95), UINT8_C(95), UINT8_C(95), UINT8_C(95), UINT8_C(95), UINT8_C(95), UINT8_C(95), UINT8_C(95), UINT8_C(95), UINT8_C(95), UINT8_C(95), UINT8_C(95), UINT8_C(95), UINT8_C(95), UINT8_C(95), UINT8_C(95), UINT8_C(95), UINT8_C(95), UINT8_C(95), UINT8_C(95), UINT8_C(95), UINT8_C(95), UINT8_C(95), UINT8_C(95), UINT8_C(95), UINT8_C(95), UINT8_C(95), UINT8_C(95), UINT8_C(95), UINT8_C(95), UINT8_C(95), UINT8_C(95), UINT8_C(95), UINT8_C(95), UINT8_C(95), UINT8_C(95), UINT8_C(95), UINT8_C(95), UINT8_C(95), UINT8_C(95), UINT8_C(95), UINT8_C(95), UINT8_C(95), UINT8_C(95), UINT8_C(95), UINT8_C(95), UINT8_C(95), UINT8_C(95), UINT8_C(95), UINT8_C(95), UINT8_C(95), UINT8_C(95), UINT8_C(95), UINT8_C(95), UINT8_C(95), UINT8_C(95), UINT8_C(95), UINT8_C(95), UINT8_C(95), UINT8_C(95), UINT8_C(95), UINT8_C(95), UINT8_C(95), UINT8_C(95), UINT8_C(95), UINT8_C(95), UINT8_C(95), UINT8_C(48), UINT8_C(95), UINT8_C(95), UINT8_C(95), UINT8_C(95), UINT8_C(95), UINT8_C(95), UINT8_C(95), UINT8_C(95), UINT8_C(95), UINT8_C(95), UINT8_C(95), UINT8_C(95), UINT8_C(95), UINT8_C(95), UINT8_C(95), UINT8_C(95), UINT8_C(95), UINT8_C(95), UINT8_C(95), UINT8_C(95), UINT8_C(95), UINT8_C(95), UINT8_C(95), UINT8_C(95), UINT8_C(95), UINT8_C(95), UINT8_C(95), UINT8_C(95), UINT8_C(95), UINT8_C(95), UINT8_C(95), UINT8_C(95), UINT8_C(95), UINT8_C(95), UINT8_C(95), UINT8_C(95), UINT8_C(95), UINT8_C(95), UINT8_C(39), UINT8_C(95), UINT8_C(95), UINT8_C(95), UINT8_C(95), UINT8_C(95), UINT8_C(95), UINT8_C(95), UINT8_C(95), UINT8_C(95), UINT8_C(95), UINT8_C(95), UINT8_C(95), UINT8_C(95), UINT8_C(95), UINT8_C(95), UINT8_C(68), UINT8_C(95), UINT8_C(95), UINT8_C(95), UINT8_C(95), UINT8_C(95), UINT8_C(95), UINT8_C(95), UINT8_C(95), UINT8_C(95), UINT8_C(95), UINT8_C(95), UINT8_C(95), UINT8_C(95), UINT8_C(95), UINT8_C(95), UINT8_C(95), UINT8_C(95), UINT8_C(95), UINT8_C(95), UINT8_C(95), UINT8_C(95), UINT8_C(95), UINT8_C(95), UINT8_C(95), UINT8_C(95), UINT8_C(95), UINT8_C(95), UINT8_C(95), UINT8_C(95), UINT8_C(95), UINT8_C(95), UINT8_C(95), UINT8_C(95), UINT8_C(95), UINT8_C(95), UINT8_C(95), UINT8_C(95), UINT8_C(95), UINT8_C(95), UINT8_C(69), UINT8_C(95), UINT8_C(95), UINT8_C(95), UINT8_C(95), UINT8_C(95), UINT8_C(95), UINT8_C(95), UINT8_C(95), UINT8_C(95), UINT8_C(95), UINT8_C(95), UINT8_C(95), UINT8_C(95), UINT8_C(95), UINT8_C(95), UINT8_C(95), UINT8_C(95), UINT8_C(95), UINT8_C(95), UINT8_C(95), UINT8_C(95), UINT8_C(40), UINT8_C(95), UINT8_C(95), UINT8_C(95), UINT8_C(95), UINT8_C(95), UINT8_C(95), UINT8_C(95), UINT8_C(95), UINT8_C(95), UINT8_C(95), UINT8_C(95), UINT8_C(95), UINT8_C(95), UINT8_C(95), UINT8_C(95), UINT8_C(95), UINT8_C(95), UINT8_C(95), UINT8_C(95), UINT8_C(95), UINT8_C(95), UINT8_C(95), UINT8_C(95), UINT8_C(95), UINT8_C(95), UINT8_C(95), UINT8_C(95), UINT8_C(95), UINT8_C(95), UINT8_C(95), UINT8_C(95), UINT8_C(95), UINT8_C(95), UINT8_C(95), UINT8_C(95), UINT8_C(95), UINT8_C(95), UINT8_C(95), UINT8_C(40), UINT8_C(95), UINT8_C(95), UINT8_C(95), UINT8_C(95), UINT8_C(95), UINT8_C(95), UINT8_C(95), UINT8_C(95), UINT8_C(95), UINT8_C(95), UINT8_C(95), UINT8_C(95), UINT8_C(95), UINT8_C(95), UINT8_C(95), UINT8_C(95), UINT8_C(95), UINT8_C(95), UINT8_C(95), UINT8_C(95), UINT8_C(95), UINT8_C(95), UINT8_C(95), UINT8_C(95), UINT8_C(95), UINT8_C(95), UINT8_C(95), UINT8_C(95), UINT8_C(95), UINT8_C(95), UINT8_C(95), UINT8_C(95), UINT8_C(95), UINT8_C(95), UINT8_C(95), UINT8_C(95), UINT8_C(95), UINT8_C(95), UINT8_C(95), UINT8_C(95), UINT8_C(95), UINT8_C(95), UINT8_C(95), UINT8_C(95), UINT8_C(95), UINT8_C(95), UINT8_C(95), UINT8_C(95), UINT8_C(51), UINT8_C(52), UINT8_C(53), UINT8_C(95), UINT8_C(95), UINT8_C(95), UINT8_C(95), UINT8_C(95), UINT8_C(95), UINT8_C(95), UINT8_C(95), UINT8_C(95), UINT8_C(95), UINT8_C(95), UINT8_C(95), UINT8_C(95), UINT8_C(95), UINT8_C(95), UINT8_C(95), UINT8_C(95), UINT8_C(95), UINT8_C(95), UINT8_C(95), UINT8_C(95), UINT8_C(95), UINT8_C(95), UINT8_C(95), UINT8_C(95), UINT8_C(95), UINT8_C(54), UINT8_C(95), UINT8_C(95), UINT8_C(95), UINT8_C(95), UINT8_C(95), UINT8_C(95), UINT8_C(95), UINT8_C(95), UINT8_C(95), UINT8_C(95), UINT8_C(95), UINT8_C(95), UINT8_C(95), UINT8_C(95), UINT8_C(95), UINT8_C(95), UINT8_C(69), UINT8_C(95), UINT8_C(95), UINT8_C(78), UINT8_C(95), UINT8_C(95), UINT8_C(95), UINT8_C(95), UINT8_C(95), UINT8_C(95), UINT8_C(95), UINT8_C(95), UINT8_C(95), UINT8_C(95), UINT8_C(95), UINT8_C(95), UINT8_C(95), UINT8_C(95), UINT8_C(95), UINT8_C(95), UINT8_C(95), UINT8_C(95), UINT8_C(95), UINT8_C(95), UINT8_C(95), UINT8_C(95), UINT8_C(95), UINT8_C(95), UINT8_C(95), UINT8_C(95), UINT8_C(95), UINT8_C(95), UINT8_C(95), UINT8_C(95), UINT8_C(95), UINT8_C(95), UINT8_C(95), UINT8_C(95), UINT8_C(95), UINT8_C(95), UINT8_C(72), UINT8_C(95), UINT8_C(95), UINT8_C(95), UINT8_C(95), UINT8_C(95), UINT8_C(95), UINT8_C(95), UINT8_C(95), UINT8_C(95), UINT8_C(95), UINT8_C(95), UINT8_C(95), UINT8_C(95), UINT8_C(95), UINT8_C(95), UINT8_C(95), UINT8_C(95), UINT8_C(95), UINT8_C(95), UINT8_C(95), UINT8_C(95), UINT8_C(95), UINT8_C(95), UINT8_C(95), UINT8_C(95), UINT8_C(95), UINT8_C(95), UINT8_C(95), UINT8_C(95), UINT8_C(95), UINT8_C(95), UINT8_C(95), UINT8_C(95), UINT8_C(95), UINT8_C(95), UINT8_C(95), UINT8_C(95), UINT8_C(95), UINT8_C(95), UINT8_C(73), UINT8_C(95), UINT8_C(95), UINT8_C(95), UINT8_C(95), UINT8_C(95), UINT8_C(95), UINT8_C(95), UINT8_C(95), UINT8_C(95), UINT8_C(95), UINT8_C(95), UINT8_C(95), UINT8_C(95), UINT8_C(95), UINT8_C(95), UINT8_C(95), UINT8_C(95), UINT8_C(95), UINT8_C(95), UINT8_C(41), UINT8_C(95), UINT8_C(95), UINT8_C(95), UINT8_C(95), UINT8_C(95), UINT8_C(95), UINT8_C(95), UINT8_C(95), UINT8_C(95), UINT8_C(95), UINT8_C(95), UINT8_C(95), UINT8_C(95), UINT8_C(95), UINT8_C(95), UINT8_C(95), UINT8_C(95), UINT8_C(74), UINT8_C(95), UINT8_C(95), UINT8_C(95), UINT8_C(95), UINT8_C(95), UINT8_C(95), UINT8_C(95), UINT8_C(95), UINT8_C(95), UINT8_C(95), UINT8_C(95), UINT8_C(95), UINT8_C(95), UINT8_C(95), UINT8_C(95), UINT8_C(95), UINT8_C(95), UINT8_C(95), UINT8_C(95), UINT8_C(95), UINT8_C(95), UINT8_C(95), UINT8_C(95), UINT8_C(95), UINT8_C(95), UINT8_C(95), UINT8_C(95), UINT8_C(95), UINT8_C(95), UINT8_C(95), UINT8_C(55), UINT8_C(56), UINT8_C(57), UINT8_C(95), UINT8_C(95), UINT8_C(95), UINT8_C(95), UINT8_C(95), UINT8_C(95), UINT8_C(94), UINT8_C(95), UINT8_C(95), UINT8_C(95), UINT8_C(95), UINT8_C(95), UINT8_C(95), UINT8_C(95), UINT8_C(95), UINT8_C(95), UINT8_C(95), UINT8_C(95), UINT8_C(95), UINT8_C(95), UINT8_C(95), UINT8_C(95), UINT8_C(95), UINT8_C(95), UINT8_C(95), UINT8_C(95), UINT8_C(44), UINT8_C(95), UINT8_C(95), UINT8_C(95), UINT8_C(95), UINT8_C(95), UINT8_C(95), UINT8_C(95), UINT8_C(95), UINT8_C(95), UINT8_C(95), UINT8_C(95), UINT8_C(95), UINT8_C(95), UINT8_C(95), UINT8_C(95), UINT8_C(65), UINT8_C(95), UINT8_C(95), UINT8_C(95), UINT8_C(95), UINT8_C(95), UINT8_C(95), UINT8_C(95), UINT8_C(95), UINT8_C(95), UINT8_C(95), UINT8_C(95), UINT8_C(95), UINT8_C(95), UINT8_C(95), UINT8_C(95), UINT8_C(95), UINT8_C(95), UINT8_C(95), UINT8_C(95), UINT8_C(95), UINT8_C(95), UINT8_C(95), UINT8_C(42), UINT8_C(95), UINT8_C(95), UINT8_C(95), UINT8_C(95), UINT8_C(95), UINT8_C(95), UINT8_C(95), UINT8_C(95), UINT8_C(95), UINT8_C(95), UINT8_C(95), UINT8_C(95), UINT8_C(95), UINT8_C(95), UINT8_C(95), UINT8_C(95), UINT8_C(95), UINT8_C(95), UINT8_C(95), UINT8_C(95), UINT8_C(95), UINT8_C(95), UINT8_C(95), UINT8_C(95), UINT8_C(95), UINT8_C(95), UINT8_C(95), UINT8_C(95), UINT8_C(95), UINT8_C(95), UINT8_C(95), UINT8_C(95), UINT8_C(95), UINT8_C(95), UINT8_C(95), UINT8_C(95), UINT8_C(95), UINT8_C(95), UINT8_C(45), UINT8_C(95), UINT8_C(95), UINT8_C(95), UINT8_C(95), UINT8_C(95), UINT8_C(95), UINT8_C(95), UINT8_C(95), UINT8_C(95), UINT8_C(95), UINT8_C(95), UINT8_C(95), UINT8_C(95), UINT8_C(95), UINT8_C(95), UINT8_C(95), UINT8_C(95), UINT8_C(95), UINT8_C(95), UINT8_C(95), UINT8_C(95), UINT8_C(95), UINT8_C(95), UINT8_C(95), UINT8_C(95), UINT8_C(95), UINT8_C(95), UINT8_C(95), UINT8_C(95), UINT8_C(95), UINT8_C(95), UINT8_C(95), UINT8_C(95), UINT8_C(95), UINT8_C(95), UINT8_C(95), UINT8_C(95), UINT8_C(95), UINT8_C(95), UINT8_C(95), UINT8_C(95), UINT8_C(95), UINT8_C(95), UINT8_C(95), UINT8_C(95), UINT8_C(95), UINT8_C(95), UINT8_C(95), UINT8_C(95), UINT8_C(95), UINT8_C(95), UINT8_C(95), UINT8_C(95), UINT8_C(95), UINT8_C(95), UINT8_C(95), UINT8_C(95), UINT8_C(95), UINT8_C(95), UINT8_C(95), UINT8_C(95), UINT8_C(95), UINT8_C(95), UINT8_C(95), UINT8_C(95), UINT8_C(95), UINT8_C(95), UINT8_C(95), UINT8_C(95), UINT8_C(95), UINT8_C(95), UINT8_C(95), UINT8_C(95), UINT8_C(95), UINT8_C(95), UINT8_C(95), UINT8_C(95), UINT8_C(42), UINT8_C(95), UINT8_C(95), UINT8_C(95), UINT8_C(95), UINT8_C(95), UINT8_C(95), UINT8_C(95), UINT8_C(95), UINT8_C(95), UINT8_C(95), UINT8_C(95), UINT8_C(95), UINT8_C(95), UINT8_C(95), UINT8_C(95), UINT8_C(95), UINT8_C(95), UINT8_C(95), UINT8_C(95), UINT8_C(95), UINT8_C(95), UINT8_C(95), UINT8_C(95), UINT8_C(95), UINT8_C(95), UINT8_C(95), UINT8_C(95), UINT8_C(95), UINT8_C(95), UINT8_C(95), UINT8_C(95), UINT8_C(95), UINT8_C(95), UINT8_C(95), UINT8_C(95), UINT8_C(95), UINT8_C(95), UINT8_C(95), UINT8_C(95), UINT8_C(95), UINT8_C(95), UINT8_C(95), UINT8_C(95), UINT8_C(95), UINT8_C(95), UINT8_C(95), UINT8_C(95), UINT8_C(95), UINT8_C(95), UINT8_C(95), UINT8_C(95), UINT8_C(95), UINT8_C(95), UINT8_C(95), UINT8_C(63), UINT8_C(67), UINT8_C(95), UINT8_C(95), UINT8_C(95), UINT8_C(95), UINT8_C(95), UINT8_C(95), UINT8_C(95), UINT8_C(95), UINT8_C(95), UINT8_C(95), UINT8_C(95), UINT8_C(95), UINT8_C(95), UINT8_C(95), UINT8_C(95), UINT8_C(95), UINT8_C(95), UINT8_C(95), UINT8_C(95), UINT8_C(95), UINT8_C(95), UINT8_C(43), UINT8_C(95), UINT8_C(95), UINT8_C(95), UINT8_C(95), UINT8_C(95), UINT8_C(95), UINT8_C(95), UINT8_C(95), UINT8_C(95), UINT8_C(95), UINT8_C(95), UINT8_C(95), UINT8_C(95), UINT8_C(95), UINT8_C(95), UINT8_C(95), UINT8_C(95), UINT8_C(95), UINT8_C(95), UINT8_C(95), UINT8_C(95), UINT8_C(95), UINT8_C(95), UINT8_C(95), UINT8_C(95), UINT8_C(95), UINT8_C(95), UINT8_C(95), UINT8_C(95), UINT8_C(95), UINT8_C(95), UINT8_C(95), UINT8_C(95), UINT8_C(95), UINT8_C(95), UINT8_C(95), UINT8_C(95), UINT8_C(95), UINT8_C(95), UINT8_C(95), UINT8_C(95), UINT8_C(95), UINT8_C(95), UINT8_C(95), UINT8_C(95), UINT8_C(95), UINT8_C(95), UINT8_C(95), UINT8_C(95), UINT8_C(95), UINT8_C(95), UINT8_C(95), UINT8_C(95), UINT8_C(95), UINT8_C(95), UINT8_C(95), UINT8_C(76), UINT8_C(95), UINT8_C(95), UINT8_C(95), UINT8_C(95), UINT8_C(95), UINT8_C(95), UINT8_C(95), UINT8_C(95), UINT8_C(95), UINT8_C(95), UINT8_C(95), UINT8_C(95), UINT8_C(95), UINT8_C(95), UINT8_C(95), UINT8_C(95), UINT8_C(95), UINT8_C(95), UINT8_C(95), UINT8_C(95), UINT8_C(95), UINT8_C(95), UINT8_C(95), UINT8_C(95), UINT8_C(95), UINT8_C(95), UINT8_C(95), UINT8_C(95), UINT8_C(95), UINT8_C(95), UINT8_C(95), UINT8_C(95), UINT8_C(95), UINT8_C(95), UINT8_C(95), UINT8_C(95), UINT8_C(63), UINT8_C(95), UINT8_C(95), UINT8_C(95), UINT8_C(95), UINT8_C(95), UINT8_C(95), UINT8_C(95), UINT8_C(95), UINT8_C(95), UINT8_C(95), UINT8_C(95), UINT8_C(95), UINT8_C(95), UINT8_C(95), UINT8_C(95), UINT8_C(95), UINT8_C(95), UINT8_C(95), UINT8_C(95), UINT8_C(95), UINT8_C(95), UINT8_C(95), UINT8_C(43), UINT8_C(95), UINT8_C(95), UINT8_C(94), UINT8_C(94), UINT8_C(94), UINT8_C(94), UINT8_C(94), UINT8_C(94), UINT8_C(94), UINT8_C(94), UINT8_C(94), UINT8_C(94), UINT8_C(94), UINT8_C(94), UINT8_C(94), UINT8_C(94), UINT8_C(94), UINT8_C(94), UINT8_C(94), UINT8_C(94), UINT8_C(94), UINT8_C(94), UINT8_C(94), UINT8_C(94), UINT8_C(94), UINT8_C(94), UINT8_C(94), UINT8_C(94), UINT8_C(94), UINT8_C(94), UINT8_C(94), UINT8_C(94), UINT8_C(94), UINT8_C(94), UINT8_C(94), UINT8_C(94), UINT8_C(94), UINT8_C(94), UINT8_C(94), UINT8_C(94), UINT8_C(94), UINT8_C(94), UINT8_C(94), UINT8_C(94), UINT8_C(94), UINT8_C(94), UINT8_C(94), UINT8_C(94), UINT8_C(94), UINT8_C(94), UINT8_C(94), UINT8_C(94), UINT8_C(94), UINT8_C(94), UINT8_C(65), UINT8_C(94), UINT8_C(94), UINT8_C(94), UINT8_C(94), UINT8_C(94), UINT8_C(94), UINT8_C(94), UINT8_C(95), UINT8_C(94), UINT8_C(94), UINT8_C(94), UINT8_C(94), UINT8_C(94), UINT8_C(94), UINT8_C(94), UINT8_C(94), UINT8_C(94), UINT8_C(94), UINT8_C(94), UINT8_C(94), UINT8_C(94), UINT8_C(94), UINT8_C(94), UINT8_C(94), UINT8_C(94), UINT8_C(95), UINT8_C(95), UINT8_C(95), UINT8_C(95), UINT8_C(95), UINT8_C(95), UINT8_C(95), UINT8_C(95), UINT8_C(95), UINT8_C(95), UINT8_C(95), UINT8_C(95), UINT8_C(95), UINT8_C(95), UINT8_C(95), UINT8_C(95), UINT8_C(95), UINT8_C(95), UINT8_C(95), UINT8_C(95), UINT8_C(95), UINT8_C(95), UINT8_C(95), UINT8_C(95), UINT8_C(95), UINT8_C(95), UINT8_C(95), UINT8_C(95), UINT8_C(95), UINT8_C(95), UINT8_C(95), UINT8_C(95), UINT8_C(95), UINT8_C(95), UINT8_C(95), UINT8_C(95), UINT8_C(45), UINT8_C(95), UINT8_C(95), UINT8_C(94), UINT8_C(94), UINT8_C(94), UINT8_C(94), UINT8_C(94), UINT8_C(94), UINT8_C(94), UINT8_C(94), UINT8_C(94), UINT8_C(94), UINT8_C(94), UINT8_C(94), UINT8_C(94), UINT8_C(94), UINT8_C(94), UINT8_C(94), UINT8_C(94), UINT8_C(94), UINT8_C(94), UINT8_C(94), UINT8_C(94), UINT8_C(95), UINT8_C(94), UINT8_C(94), UINT8_C(94), UINT8_C(94), UINT8_C(94), UINT8_C(94), UINT8_C(94), UINT8_C(94), UINT8_C(94), UINT8_C(94), UINT8_C(94), UINT8_C(94), UINT8_C(94), UINT8_C(94), UINT8_C(94), UINT8_C(94), UINT8_C(94), UINT8_C(95), UINT8_C(95), UINT8_C(95), UINT8_C(95), UINT8_C(95), UINT8_C(95), UINT8_C(95), UINT8_C(95), UINT8_C(95), UINT8_C(95), UINT8_C(95), UINT8_C(95), UINT8_C(95), UINT8_C(63), UINT8_C(67), UINT8_C(95), UINT8_C(95), UINT8_C(95), UINT8_C(95), UINT8_C(95), UINT8_C(95), UINT8_C(95), UINT8_C(95), UINT8_C(95), UINT8_C(95), UINT8_C(95), UINT8_C(95), UINT8_C(95), UINT8_C(95), UINT8_C(95), UINT8_C(95), UINT8_C(95), UINT8_C(95), UINT8_C(95), UINT8_C(95), UINT8_C(95), UINT8_C(43), UINT8_C(95), UINT8_C(95), UINT8_C(95), UINT8_C(95), UINT8_C(95), UINT8_C(95), UINT8_C(95), UINT8_C(95), UINT8_C(95), UINT8_C(59), UINT8_C(60), UINT8_C(61), UINT8_C(95), UINT8_C(95), UINT8_C(95), UINT8_C(95), UINT8_C(95), UINT8_C(95), UINT8_C(95), UINT8_C(95), UINT8_C(95), UINT8_C(95), UINT8_C(95), UINT8_C(95), UINT8_C(95), UINT8_C(95), UINT8_C(95), UINT8_C(95), UINT8_C(95), UINT8_C(95), UINT8_C(95), UINT8_C(95), UINT8_C(95), UINT8_C(95), UINT8_C(95), UINT8_C(95), UINT8_C(95), UINT8_C(95), UINT8_C(62), UINT8_C(95), UINT8_C(95), UINT8_C(95), UINT8_C(95), UINT8_C(95), UINT8_C(95), UINT8_C(95), UINT8_C(95), UINT8_C(95), UINT8_C(95), UINT8_C(95), UINT8_C(95), UINT8_C(95), UINT8_C(95), UINT8_C(95), UINT8_C(95), UINT8_C(95), UINT8_C(95), UINT8_C(95), UINT8_C(95), UINT8_C(95), UINT8_C(95), UINT8_C(95), UINT8_C(95), UINT8_C(95), UINT8_C(95), UINT8_C(95), UINT8_C(95), UINT8_C(95), UINT8_C(95), UINT8_C(95), UINT8_C(95), UINT8_C(95), UINT8_C(95), UINT8_C(95), UINT8_C(95), UINT8_C(95), UINT8_C(95), UINT8_C(48), UINT8_C(95), UINT8_C(95), UINT8_C(94), UINT8_C(94), UINT8_C(94), UINT8_C(94), UINT8_C(94), UINT8_C(94), UINT8_C(94), UINT8_C(94), UINT8_C(94), UINT8_C(94), UINT8_C(94), UINT8_C(94), UINT8_C(94), UINT8_C(94), UINT8_C(94), UINT8_C(94), UINT8_C(94), UINT8_C(94), UINT8_C(94), UINT8_C(94), UINT8_C(94), UINT8_C(95), UINT8_C(94), UINT8_C(94), UINT8_C(94), UINT8_C(94), UINT8_C(94), UINT8_C(80), UINT8_C(94), UINT8_C(94), UINT8_C(94), UINT8_C(94), UINT8_C(94), UINT8_C(94), UINT8_C(94), UINT8_C(94), UINT8_C(94), UINT8_C(94), UINT8_C(94), UINT8_C(95), UINT8_C(95), UINT8_C(95), UINT8_C(95), UINT8_C(95), UINT8_C(95), UINT8_C(95), UINT8_C(95), UINT8_C(95), UINT8_C(95), UINT8_C(95), UINT8_C(95), UINT8_C(95), UINT8_C(95), UINT8_C(95), UINT8_C(95), UINT8_C(95), UINT8_C(95), UINT8_C(95), UINT8_C(95), UINT8_C(95), UINT8_C(95), UINT8_C(95), UINT8_C(95), UINT8_C(95), UINT8_C(95), UINT8_C(95), UINT8_C(95), UINT8_C(95), UINT8_C(95), UINT8_C(95), UINT8_C(95), UINT8_C(95), UINT8_C(95), UINT8_C(95), UINT8_C(95), UINT8_C(50), UINT8_C(95), UINT8_C(95), UINT8_C(95), UINT8_C(95), UINT8_C(95), UINT8_C(95), UINT8_C(95), UINT8_C(95), UINT8_C(95), UINT8_C(95), UINT8_C(95), UINT8_C(95), UINT8_C(95), UINT8_C(95), UINT8_C(95), UINT8_C(70), UINT8_C(95), UINT8_C(95), UINT8_C(95), UINT8_C(95), UINT8_C(95), UINT8_C(95), UINT8_C(95), UINT8_C(95), UINT8_C(95), UINT8_C(95), UINT8_C(95), UINT8_C(95), UINT8_C(95), UINT8_C(95), UINT8_C(95), UINT8_C(95), UINT8_C(95), UINT8_C(95), UINT8_C(95), UINT8_C(95), UINT8_C(95), UINT8_C(95), UINT8_C(95), UINT8_C(95), UINT8_C(95), UINT8_C(94), UINT8_C(94), UINT8_C(94), UINT8_C(94), UINT8_C(94), UINT8_C(94), UINT8_C(94), UINT8_C(94), UINT8_C(94), UINT8_C(94), UINT8_C(94), UINT8_C(94), UINT8_C(94), UINT8_C(94), UINT8_C(94), UINT8_C(94), UINT8_C(94), UINT8_C(94), UINT8_C(94), UINT8_C(94), UINT8_C(94), UINT8_C(94), UINT8_C(94), UINT8_C(94), UINT8_C(94), UINT8_C(94), UINT8_C(94), UINT8_C(80), UINT8_C(94), UINT8_C(94), UINT8_C(94), UINT8_C(94), UINT8_C(94), UINT8_C(94), UINT8_C(94), UINT8_C(94), UINT8_C(94), UINT8_C(94), UINT8_C(94), UINT8_C(95), UINT8_C(95), UINT8_C(95), UINT8_C(95), UINT8_C(95), UINT8_C(95), UINT8_C(95), UINT8_C(95), UINT8_C(95), UINT8_C(95), UINT8_C(95), UINT8_C(95), UINT8_C(95), UINT8_C(95), UINT8_C(71), UINT8_C(95), UINT8_C(95), UINT8_C(95), UINT8_C(95), UINT8_C(95), UINT8_C(95), UINT8_C(95), UINT8_C(95), UINT8_C(95), UINT8_C(95), UINT8_C(95), UINT8_C(95), UINT8_C(95), UINT8_C(95), UINT8_C(95), UINT8_C(95), UINT8_C(95), UINT8_C(95), UINT8_C(95), UINT8_C(95), UINT8_C(95), UINT8_C(95), UINT8_C(95), UINT8_C(95), UINT8_C(95), UINT8_C(95), UINT8_C(95), UINT8_C(95), UINT8_C(95), UINT8_C(95), UINT8_C(95), UINT8_C(95), UINT8_C(95), UINT8_C(95), UINT8_C(95), UINT8_C(95), UINT8_C(95), UINT8_C(95), UINT8_C(64), UINT8_C(95), UINT8_C(95), UINT8_C(95), UINT8_C(95), UINT8_C(95), UINT8_C(95), UINT8_C(95), UINT8_C(95), UINT8_C(95), UINT8_C(95), UINT8_C(95), UINT8_C(95), UINT8_C(95), UINT8_C(95), UINT8_C(95), UINT8_C(95), UINT8_C(95), UINT8_C(95), UINT8_C(95), UINT8_C(95), UINT8_C(95), UINT8_C(95), UINT8_C(95), UINT8_C(95), UINT8_C(95), UINT8_C(95), UINT8_C(95), UINT8_C(95), UINT8_C(95), UINT8_C(95), UINT8_C(95), UINT8_C(95), UINT8_C(95), UINT8_C(95), UINT8_C(95), UINT8_C(95), UINT8_C(95), UINT8_C(95), UINT8_C(66), UINT8_C(95), UINT8_C(95), UINT8_C(79), UINT8_C(95), UINT8_C(95), UINT8_C(95), UINT8_C(95), UINT8_C(95), UINT8_C(95), UINT8_C(95), UINT8_C(95), UINT8_C(95), UINT8_C(95), UINT8_C(95), UINT8_C(95), UINT8_C(95), UINT8_C(95), UINT8_C(95), UINT8_C(95), UINT8_C(95), UINT8_C(95), UINT8_C(95), UINT8_C(95), UINT8_C(95), UINT8_C(95), UINT8_C(95), UINT8_C(95), UINT8_C(95), UINT8_C(95), UINT8_C(95), UINT8_C(95), UINT8_C(95), UINT8_C(95), UINT8_C(95), UINT8_C(95), UINT8_C(95), UINT8_C(95), UINT8_C(95), UINT8_C(66), UINT8_C(95), UINT8_C(95), UINT8_C(79), UINT8_C(95), UINT8_C(95), UINT8_C(95), UINT8_C(95), UINT8_C(95), UINT8_C(95), UINT8_C(95), UINT8_C(95), UINT8_C(95), UINT8_C(95), UINT8_C(95), UINT8_C(95), UINT8_C(95), UINT8_C(95), UINT8_C(95), UINT8_C(95), UINT8_C(95), UINT8_C(95), UINT8_C(95), UINT8_C(95), UINT8_C(95), UINT8_C(95), UINT8_C(95), UINT8_C(95), UINT8_C(95), UINT8_C(95), UINT8_C(95), UINT8_C(95), UINT8_C(95), UINT8_C(95), UINT8_C(95), UINT8_C(95), UINT8_C(95), UINT8_C(95), UINT8_C(95), UINT8_C(95), UINT8_C(95), UINT8_C(95), UINT8_C(95), UINT8_C(95), UINT8_C(95), UINT8_C(95), UINT8_C(95), UINT8_C(95), UINT8_C(95), UINT8_C(95), UINT8_C(95), UINT8_C(95), UINT8_C(95), UINT8_C(95), UINT8_C(95), UINT8_C(95), UINT8_C(95), UINT8_C(95), UINT8_C(95), UINT8_C(95), UINT8_C(95), UINT8_C(95), UINT8_C(95), UINT8_C(95), UINT8_C(95), UINT8_C(95), UINT8_C(95), UINT8_C(95), UINT8_C(95), UINT8_C(95), UINT8_C(95), UINT8_C(95), UINT8_C(95), UINT8_C(95), UINT8_C(95), UINT8_C(95), UINT8_C(95), UINT8_C(95), UINT8_C(95), UINT8_C(95), UINT8_C(95), UINT8_C(95), UINT8_C(95), UINT8_C(95), UINT8_C(95), UINT8_C(95), UINT8_C(95), UINT8_C(95), UINT8_C(95), UINT8_C(95), UINT8_C(95), UINT8_C(95), UINT8_C(95), UINT8_C(95), UINT8_C(95), UINT8_C(95), UINT8_C(95), UINT8_C(95), UINT8_C(95), UINT8_C(95), UINT8_C(95), UINT8_C(95), UINT8_C(95), UINT8_C(95), UINT8_C(95), UINT8_C(95), UINT8_C(95), UINT8_C(95), UINT8_C(95), UINT8_C(95), UINT8_C(95), UINT8_C(95), UINT8_C(95), UINT8_C(95), UINT8_C(95), UINT8_C(95), UINT8_C(95), UINT8_C(95), UINT8_C(95), UINT8_C(75), UINT8_C(95), UINT8_C(95), UINT8_C(95), UINT8_C(95), UINT8_C(95), UINT8_C(95), UINT8_C(95), UINT8_C(95), UINT8_C(95), UINT8_C(95), UINT8_C(95), UINT8_C(95), UINT8_C(95), UINT8_C(95), UINT8_C(95), UINT8_C(95), UINT8_C(95), UINT8_C(95), UINT8_C(95), UINT8_C(95), UINT8_C(95), UINT8_C(95), UINT8_C(95), UINT8_C(95), UINT8_C(95), UINT8_C(95), UINT8_C(95), UINT8_C(95), UINT8_C(95), UINT8_C(95), UINT8_C(95), UINT8_C(95), UINT8_C(95), UINT8_C(95), UINT8_C(95), UINT8_C(95), UINT8_C(95), UINT8_C(95), UINT8_C(77), UINT8_C(95), UINT8_C(95), UINT8_C(95), UINT8_C(95), UINT8_C(95), UINT8_C(95), UINT8_C(95), UINT8_C(95), UINT8_C(95), UINT8_C(95), UINT8_C(95), UINT8_C(95), UINT8_C(95), UINT8_C(95), UINT8_C(95), UINT8_C(95), UINT8_C(95), UINT8_C(95), UINT8_C(95), UINT8_C(95), UINT8_C(95), UINT8_C(95), UINT8_C(95), UINT8_C(95), UINT8_C(95), UINT8_C(95), UINT8_C(95), UINT8_C(95), UINT8_C(95), UINT8_C(95), UINT8_C(95), UINT8_C(95), UINT8_C(95), UINT8_C(95), UINT8_C(95), UINT8_C(95), UINT8_C(64), UINT8_C(95), UINT8_C(95), UINT8_C(95), UINT8_C(95), UINT8_C(95), UINT8_C(95), UINT8_C(95), UINT8_C(95), UINT8_C(95), UINT8_C(95), UINT8_C(95), UINT8_C(95), UINT8_C(95), UINT8_C(95), UINT8_C(95), UINT8_C(95), UINT8_C(95), UINT8_C(95), UINT8_C(95), UINT8_C(95), UINT8_C(95), UINT8_C(95), UINT8_C(95), UINT8_C(95), UINT8_C(95), UINT8_C(95), UINT8_C(95), UINT8_C(95), UINT8_C(95), UINT8_C(95), UINT8_C(95), UINT8_C(95), UINT8_C(95), UINT8_C(95), UINT8_C(95), UINT8_C(95), UINT8_C(95), UINT8_C(95), UINT8_C(66), UINT8_C(95), UINT8_C(95), UINT8_C(79), UINT8_C(95), UINT8_C(95), UINT8_C(95), UINT8_C(95), UINT8_C(95), UINT8_C(95), UINT8_C(95), UINT8_C(95), UINT8_C(95), UINT8_C(95), UINT8_C(95), UINT8_C(95), UINT8_C(95), UINT8_C(95), UINT8_C(95), UINT8_C(95), UINT8_C(95), UINT8_C(95), UINT8_C(95), UINT8_C(95), UINT8_C(95), UINT8_C(95), UINT8_C(95), UINT8_C(95), UINT8_C(95), UINT8_C(95), UINT8_C(95), UINT8_C(95), UINT8_C(95), UINT8_C(95), UINT8_C(95), UINT8_C(95), UINT8_C(95), UINT8_C(95), UINT8_C(95), UINT8_C(66), UINT8_C(95), UINT8_C(95), UINT8_C(79), UINT8_C(95), UINT8_C(95), UINT8_C(95), UINT8_C(95), UINT8_C(95), UINT8_C(95), UINT8_C(95), UINT8_C(95), UINT8_C(95), UINT8_C(95), UINT8_C(95), UINT8_C(95), UINT8_C(95), UINT8_C(95), UINT8_C(95), UINT8_C(95), UINT8_C(95), UINT8_C(95), UINT8_C(95), UINT8_C(95), UINT8_C(95), UINT8_C(95), UINT8_C(95), UINT8_C(95), UINT8_C(95), UINT8_C(95), UINT8_C(95), UINT8_C(95), UINT8_C(95), UINT8_C(95), UINT8_C(95), UINT8_C(95), UINT8_C(95), UINT8_C(95), UINT8_C(95), UINT8_C(95), UINT8_C(95), UINT8_C(95), UINT8_C(95), UINT8_C(95), UINT8_C(95), UINT8_C(95), UINT8_C(95), UINT8_C(95), UINT8_C(95), UINT8_C(95), UINT8_C(95), UINT8_C(95), UINT8_C(95), UINT8_C(95), UINT8_C(95), UINT8_C(95), UINT8_C(95), UINT8_C(95), UINT8_C(95), UINT8_C(95), UINT8_C(95), UINT8_C(95), UINT8_C(95), UINT8_C(95), UINT8_C(95), UINT8_C(95), UINT8_C(95), UINT8_C(95), UINT8_C(95), UINT8_C(95), UINT8_C(95), UINT8_C(95), UINT8_C(95), UINT8_C(95), UINT8_C(95), UINT8_C(95), UINT8_C(95), UINT8_C(95), UINT8_C(95), UINT8_C(95), UINT8_C(95), UINT8_C(95), UINT8_C(95), UINT8_C(95), UINT8_C(95), UINT8_C(95), UINT8_C(95), UINT8_C(95), UINT8_C(95), UINT8_C(95), UINT8_C(95), UINT8_C(95), UINT8_C(95), UINT8_C(95), UINT8_C(95), UINT8_C(95), UINT8_C(95), UINT8_C(95), UINT8_C(95), UINT8_C(95), UINT8_C(95), UINT8_C(95), UINT8_C(95) } };
 static inline uint8_t derive__derived(rt_slice l1, rt_slice l2)
 {
     uint8_t l0;
+    uint8_t *l3;
+    uint8_t *l4;
+    rt_slice l5;
     uint8_t *l6;
-    rt_slice l7;
-    uint8_t *l8;
-    rt_slice l9;
+    uint8_t *l7;
+    rt_slice l8;
+    uint8_t *l9;
     uint8_t *l10;
     rt_slice l11;
     uint8_t *l12;
     rt_slice l13;
     uint8_t *l14;
     rt_slice l15;
-    l6 = (uint8_t *)&derive__derived__l3;
-    l7.p = l6;
-    l7.n = UINT64_C(1833);
-    l8 = (uint8_t *)&derive__derived__l4;
-    l9.p = l8;
-    l9.n = UINT64_C(1833);
-    l10 = (uint8_t *)&derive__derived__l5;
+    l3 = (uint8_t *)&derive__derived__l16;
+    l4 = (uint8_t *)&(*(uint8_t *)l3);
+    l5.p = l4;
+    l5.n = UINT64_C(1833);
+    l6 = (uint8_t *)&derive__derived__l17;
+    l7 = (uint8_t *)&(*(uint8_t *)l6);
+    l8.p = l7;
+    l8.n = UINT64_C(1833);
+    l9 = (uint8_t *)&derive__derived__l18;
+    l10 = (uint8_t *)&(*(uint8_t *)l9);
     l11.p = l10;
     l11.n = UINT64_C(1833);
     l12 = (uint8_t *)&(*(uint8_t *)l1.p);
@@ -4915,7 +5030,7 @@ static inline uint8_t derive__derived(rt_slice l1, rt_slice l2)
     l14 = (uint8_t *)&(*(uint8_t *)l2.p);
     l15.p = l14;
     l15.n = l2.n;
-    l0 = derive__walk(l7, l9, l11, l13, l15);
+    l0 = derive__walk(l5, l8, l11, l13, l15);
     return l0;
 }
 
@@ -4968,7 +5083,7 @@ static inline uint64_t derive__index(uint8_t l1, uint8_t l2)
     return l0;
 }
 
-static inline struct derive__Mark derive__moved(rt_slice l1, rt_slice l2, rt_slice l3, struct derive__Mark l4, uint8_t l5, uint64_t l6)
+static RT_HERE struct derive__Mark derive__moved(rt_slice l1, rt_slice l2, rt_slice l3, struct derive__Mark l4, uint8_t l5, uint64_t l6)
 {
     struct derive__Mark l0;
     uint64_t l7;
@@ -5011,11 +5126,12 @@ static inline struct derive__Mark derive__moved(rt_slice l1, rt_slice l2, rt_sli
             break;
         }
     }
-    l0 = l12;
+    l0.f0 = l12.f0;
+    l0.f1 = l12.f1;
     return l0;
 }
 
-static inline struct derive__Mark derive__pushed(rt_slice l1, uint64_t l2, uint8_t l3, uint8_t l4)
+static RT_HERE struct derive__Mark derive__pushed(rt_slice l1, uint64_t l2, uint8_t l3, uint8_t l4)
 {
     struct derive__Mark l0;
     uint8_t *l5;
@@ -5151,31 +5267,35 @@ static inline uint8_t derive__roles__said_by(rt_slice l1, uint8_t l2, uint8_t l3
     return l0;
 }
 
-static const struct rt_array_uint8_1833 derive__step__l5 = { { UINT8_C(48), UINT8_C(48), UINT8_C(48), UINT8_C(48), UINT8_C(48), UINT8_C(48), UINT8_C(48), UINT8_C(48), UINT8_C(48), UINT8_C(48), UINT8_C(48), UINT8_C(48), UINT8_C(48), UINT8_C(48), UINT8_C(48), UINT8_C(48), UINT8_C(48), UINT8_C(48), UINT8_C(48), UINT8_C(48), UINT8_C(48), UINT8_C(48), UINT8_C(48), UINT8_C(48), UINT8_C(48), UINT8_C(48), UINT8_C(48), UINT8_C(48), UINT8_C(48), UINT8_C(48), UINT8_C(48), UINT8_C(48), UINT8_C(48), UINT8_C(48), UINT8_C(48), UINT8_C(48), UINT8_C(48), UINT8_C(48), UINT8_C(48), UINT8_C(48), UINT8_C(51), UINT8_C(48), UINT8_C(48), UINT8_C(48), UINT8_C(48), UINT8_C(48), UINT8_C(48), UINT8_C(48), UINT8_C(48), UINT8_C(48), UINT8_C(48), UINT8_C(48), UINT8_C(48), UINT8_C(48), UINT8_C(48), UINT8_C(48), UINT8_C(48), UINT8_C(48), UINT8_C(48), UINT8_C(48), UINT8_C(48), UINT8_C(48), UINT8_C(48), UINT8_C(48), UINT8_C(48), UINT8_C(48), UINT8_C(48), UINT8_C(48), UINT8_C(48), UINT8_C(48), UINT8_C(48), UINT8_C(48), UINT8_C(48), UINT8_C(48), UINT8_C(48), UINT8_C(48), UINT8_C(48), UINT8_C(48), UINT8_C(48), UINT8_C(51), UINT8_C(48), UINT8_C(48), UINT8_C(48), UINT8_C(48), UINT8_C(80), UINT8_C(48), UINT8_C(48), UINT8_C(48), UINT8_C(48), UINT8_C(48), UINT8_C(48), UINT8_C(48), UINT8_C(48), UINT8_C(48), UINT8_C(48), UINT8_C(48), UINT8_C(48), UINT8_C(48), UINT8_C(48), UINT8_C(48), UINT8_C(48), UINT8_C(48), UINT8_C(48), UINT8_C(48), UINT8_C(48), UINT8_C(48), UINT8_C(48), UINT8_C(48), UINT8_C(48), UINT8_C(48), UINT8_C(48), UINT8_C(48), UINT8_C(48), UINT8_C(48), UINT8_C(78), UINT8_C(48), UINT8_C(48), UINT8_C(48), UINT8_C(48), UINT8_C(48), UINT8_C(48), UINT8_C(48), UINT8_C(48), UINT8_C(48), UINT8_C(48), UINT8_C(48), UINT8_C(48), UINT8_C(48), UINT8_C(48), UINT8_C(48), UINT8_C(48), UINT8_C(48), UINT8_C(48), UINT8_C(48), UINT8_C(48), UINT8_C(48), UINT8_C(48), UINT8_C(48), UINT8_C(48), UINT8_C(48), UINT8_C(48), UINT8_C(48), UINT8_C(48), UINT8_C(48), UINT8_C(48), UINT8_C(48), UINT8_C(48), UINT8_C(48), UINT8_C(48), UINT8_C(48), UINT8_C(48), UINT8_C(48), UINT8_C(48), UINT8_C(52), UINT8_C(48), UINT8_C(48), UINT8_C(48), UINT8_C(48), UINT8_C(48), UINT8_C(48), UINT8_C(48), UINT8_C(48), UINT8_C(48), UINT8_C(48), UINT8_C(48), UINT8_C(48), UINT8_C(48), UINT8_C(48), UINT8_C(48), UINT8_C(53), UINT8_C(48), UINT8_C(48), UINT8_C(48), UINT8_C(48), UINT8_C(48), UINT8_C(48), UINT8_C(48), UINT8_C(48), UINT8_C(48), UINT8_C(48), UINT8_C(48), UINT8_C(48), UINT8_C(48), UINT8_C(48), UINT8_C(48), UINT8_C(48), UINT8_C(48), UINT8_C(48), UINT8_C(48), UINT8_C(48), UINT8_C(48), UINT8_C(48), UINT8_C(48), UINT8_C(48), UINT8_C(48), UINT8_C(48), UINT8_C(48), UINT8_C(48), UINT8_C(48), UINT8_C(48), UINT8_C(48), UINT8_C(48), UINT8_C(48), UINT8_C(48), UINT8_C(48), UINT8_C(48), UINT8_C(48), UINT8_C(48), UINT8_C(48), UINT8_C(58), UINT8_C(48), UINT8_C(48), UINT8_C(48), UINT8_C(48), UINT8_C(48), UINT8_C(48), UINT8_C(48), UINT8_C(48), UINT8_C(48), UINT8_C(48), UINT8_C(48), UINT8_C(48), UINT8_C(48), UINT8_C(48), UINT8_C(48), UINT8_C(48), UINT8_C(48), UINT8_C(48), UINT8_C(48), UINT8_C(48), UINT8_C(48), UINT8_C(55), UINT8_C(48), UINT8_C(48), UINT8_C(48), UINT8_C(48), UINT8_C(48), UINT8_C(48), UINT8_C(48), UINT8_C(48), UINT8_C(48), UINT8_C(48), UINT8_C(48), UINT8_C(48), UINT8_C(48), UINT8_C(48), UINT8_C(48), UINT8_C(48), UINT8_C(48), UINT8_C(48), UINT8_C(48), UINT8_C(48), UINT8_C(48), UINT8_C(48), UINT8_C(48), UINT8_C(48), UINT8_C(48), UINT8_C(48), UINT8_C(48), UINT8_C(48), UINT8_C(48), UINT8_C(48), UINT8_C(48), UINT8_C(48), UINT8_C(48), UINT8_C(48), UINT8_C(48), UINT8_C(48), UINT8_C(48), UINT8_C(48), UINT8_C(55), UINT8_C(48), UINT8_C(48), UINT8_C(48), UINT8_C(48), UINT8_C(48), UINT8_C(48), UINT8_C(48), UINT8_C(48), UINT8_C(48), UINT8_C(48), UINT8_C(48), UINT8_C(48), UINT8_C(48), UINT8_C(48), UINT8_C(48), UINT8_C(48), UINT8_C(48), UINT8_C(48), UINT8_C(48), UINT8_C(48), UINT8_C(56), UINT8_C(48), UINT8_C(48), UINT8_C(48), UINT8_C(48), UINT8_C(48), UINT8_C(48), UINT8_C(48), UINT8_C(48), UINT8_C(48), UINT8_C(48), UINT8_C(48), UINT8_C(48), UINT8_C(48), UINT8_C(48), UINT8_C(48), UINT8_C(48), UINT8_C(48), UINT8_C(48), UINT8_C(48), UINT8_C(48), UINT8_C(48), UINT8_C(48), UINT8_C(48), UINT8_C(48), UINT8_C(48), UINT8_C(48), UINT8_C(48), UINT8_C(57), UINT8_C(57), UINT8_C(57), UINT8_C(48), UINT8_C(48), UINT8_C(48), UINT8_C(48), UINT8_C(48), UINT8_C(48), UINT8_C(48), UINT8_C(48), UINT8_C(48), UINT8_C(48), UINT8_C(48), UINT8_C(48), UINT8_C(48), UINT8_C(48), UINT8_C(48), UINT8_C(48), UINT8_C(48), UINT8_C(48), UINT8_C(48), UINT8_C(48), UINT8_C(48), UINT8_C(48), UINT8_C(48), UINT8_C(48), UINT8_C(48), UINT8_C(48), UINT8_C(57), UINT8_C(48), UINT8_C(48), UINT8_C(48), UINT8_C(48), UINT8_C(48), UINT8_C(48), UINT8_C(48), UINT8_C(48), UINT8_C(48), UINT8_C(48), UINT8_C(48), UINT8_C(48), UINT8_C(48), UINT8_C(48), UINT8_C(48), UINT8_C(48), UINT8_C(58), UINT8_C(48), UINT8_C(48), UINT8_C(54), UINT8_C(48), UINT8_C(48), UINT8_C(48), UINT8_C(48), UINT8_C(48), UINT8_C(48), UINT8_C(48), UINT8_C(48), UINT8_C(48), UINT8_C(48), UINT8_C(48), UINT8_C(48), UINT8_C(48), UINT8_C(48), UINT8_C(48), UINT8_C(48), UINT8_C(48), UINT8_C(48), UINT8_C(48), UINT8_C(48), UINT8_C(48), UINT8_C(48), UINT8_C(48), UINT8_C(48), UINT8_C(48), UINT8_C(48), UINT8_C(48), UINT8_C(48), UINT8_C(48), UINT8_C(48), UINT8_C(48), UINT8_C(48), UINT8_C(48), UINT8_C(48), UINT8_C(48), UINT8_C(48), UINT8_C(59), UINT8_C(48), UINT8_C(48), UINT8_C(48), UINT8_C(48), UINT8_C(48), UINT8_C(48), UINT8_C(48), UINT8_C(48), UINT8_C(48), UINT8_C(48), UINT8_C(48), UINT8_C(48), UINT8_C(48), UINT8_C(48), UINT8_C(48), UINT8_C(48), UINT8_C(48), UINT8_C(48), UINT8_C(48), UINT8_C(48), UINT8_C(48), UINT8_C(48), UINT8_C(48), UINT8_C(48), UINT8_C(48), UINT8_C(48), UINT8_C(48), UINT8_C(48), UINT8_C(48), UINT8_C(48), UINT8_C(48), UINT8_C(48), UINT8_C(48), UINT8_C(48), UINT8_C(48), UINT8_C(48), UINT8_C(48), UINT8_C(48), UINT8_C(48), UINT8_C(50), UINT8_C(48), UINT8_C(48), UINT8_C(48), UINT8_C(48), UINT8_C(48), UINT8_C(48), UINT8_C(48), UINT8_C(48), UINT8_C(48), UINT8_C(48), UINT8_C(48), UINT8_C(48), UINT8_C(48), UINT8_C(48), UINT8_C(48), UINT8_C(48), UINT8_C(48), UINT8_C(48), UINT8_C(48), UINT8_C(60), UINT8_C(48), UINT8_C(48), UINT8_C(48), UINT8_C(48), UINT8_C(48), UINT8_C(48), UINT8_C(48), UINT8_C(48), UINT8_C(48), UINT8_C(48), UINT8_C(48), UINT8_C(48), UINT8_C(48), UINT8_C(48), UINT8_C(48), UINT8_C(48), UINT8_C(48), UINT8_C(61), UINT8_C(48), UINT8_C(48), UINT8_C(48), UINT8_C(48), UINT8_C(48), UINT8_C(48), UINT8_C(48), UINT8_C(48), UINT8_C(48), UINT8_C(48), UINT8_C(48), UINT8_C(48), UINT8_C(48), UINT8_C(48), UINT8_C(48), UINT8_C(48), UINT8_C(48), UINT8_C(48), UINT8_C(48), UINT8_C(48), UINT8_C(48), UINT8_C(48), UINT8_C(48), UINT8_C(48), UINT8_C(48), UINT8_C(70), UINT8_C(48), UINT8_C(48), UINT8_C(48), UINT8_C(48), UINT8_C(65), UINT8_C(65), UINT8_C(65), UINT8_C(48), UINT8_C(48), UINT8_C(48), UINT8_C(48), UINT8_C(48), UINT8_C(48), UINT8_C(111), UINT8_C(48), UINT8_C(48), UINT8_C(48), UINT8_C(48), UINT8_C(48), UINT8_C(48), UINT8_C(48), UINT8_C(48), UINT8_C(48), UINT8_C(48), UINT8_C(48), UINT8_C(48), UINT8_C(48), UINT8_C(48), UINT8_C(48), UINT8_C(48), UINT8_C(48), UINT8_C(48), UINT8_C(48), UINT8_C(62), UINT8_C(48), UINT8_C(48), UINT8_C(48), UINT8_C(48), UINT8_C(48), UINT8_C(48), UINT8_C(48), UINT8_C(48), UINT8_C(48), UINT8_C(48), UINT8_C(48), UINT8_C(48), UINT8_C(48), UINT8_C(48), UINT8_C(48), UINT8_C(67), UINT8_C(48), UINT8_C(48), UINT8_C(48), UINT8_C(48), UINT8_C(48), UINT8_C(48), UINT8_C(70), UINT8_C(63), UINT8_C(48), UINT8_C(48), UINT8_C(48), UINT8_C(48), UINT8_C(48), UINT8_C(48), UINT8_C(48), UINT8_C(48), UINT8_C(48), UINT8_C(48), UINT8_C(48), UINT8_C(48), UINT8_C(48), UINT8_C(48), UINT8_C(66), UINT8_C(48), UINT8_C(48), UINT8_C(48), UINT8_C(48), UINT8_C(48), UINT8_C(48), UINT8_C(48), UINT8_C(48), UINT8_C(48), UINT8_C(48), UINT8_C(48), UINT8_C(48), UINT8_C(48), UINT8_C(48), UINT8_C(48), UINT8_C(48), UINT8_C(48), UINT8_C(48), UINT8_C(48), UINT8_C(48), UINT8_C(48), UINT8_C(48), UINT8_C(48), UINT8_C(48), UINT8_C(48), UINT8_C(48), UINT8_C(48), UINT8_C(48), UINT8_C(48), UINT8_C(48), UINT8_C(48), UINT8_C(48), UINT8_C(48), UINT8_C(48), UINT8_C(48), UINT8_C(48), UINT8_C(48), UINT8_C(48), UINT8_C(64), UINT8_C(48), UINT8_C(48), UINT8_C(48), UINT8_C(48), UINT8_C(48), UINT8_C(48), UINT8_C(48), UINT8_C(48), UINT8_C(48), UINT8_C(48), UINT8_C(48), UINT8_C(48), UINT8_C(48), UINT8_C(48), UINT8_C(48), UINT8_C(48), UINT8_C(48), UINT8_C(48), UINT8_C(48), UINT8_C(48), UINT8_C(48), UINT8_C(48), UINT8_C(70), UINT8_C(63), UINT8_C(48), UINT8_C(48), UINT8_C(48), UINT8_C(48), UINT8_C(48), UINT8_C(48), UINT8_C(48), UINT8_C(48), UINT8_C(48), UINT8_C(48), UINT8_C(48), UINT8_C(48), UINT8_C(48), UINT8_C(48), UINT8_C(48), UINT8_C(48), UINT8_C(48), UINT8_C(48), UINT8_C(48), UINT8_C(48), UINT8_C(48), UINT8_C(48), UINT8_C(48), UINT8_C(48), UINT8_C(48), UINT8_C(48), UINT8_C(48), UINT8_C(48), UINT8_C(48), UINT8_C(48), UINT8_C(48), UINT8_C(48), UINT8_C(48), UINT8_C(48), UINT8_C(48), UINT8_C(48), UINT8_C(48), UINT8_C(48), UINT8_C(48), UINT8_C(48), UINT8_C(48), UINT8_C(48), UINT8_C(48), UINT8_C(48), UINT8_C(48), UINT8_C(48), UINT8_C(48), UINT8_C(48), UINT8_C(48), UINT8_C(48), UINT8_C(48), UINT8_C(48), UINT8_C(48), UINT8_C(66), UINT8_C(48), UINT8_C(48), UINT8_C(48), UINT8_C(48), UINT8_C(48), UINT8_C(48), UINT8_C(48), UINT8_C(48), UINT8_C(48), UINT8_C(48), UINT8_C(48), UINT8_C(48), UINT8_C(48), UINT8_C(48), UINT8_C(48), UINT8_C(48), UINT8_C(48), UINT8_C(48), UINT8_C(48), UINT8_C(48), UINT8_C(48), UINT8_C(48), UINT8_C(70), UINT8_C(48), UINT8_C(48), UINT8_C(48), UINT8_C(48), UINT8_C(48), UINT8_C(48), UINT8_C(48), UINT8_C(48), UINT8_C(48), UINT8_C(48), UINT8_C(48), UINT8_C(48), UINT8_C(48), UINT8_C(48), UINT8_C(48), UINT8_C(48), UINT8_C(48), UINT8_C(48), UINT8_C(48), UINT8_C(48), UINT8_C(48), UINT8_C(48), UINT8_C(76), UINT8_C(71), UINT8_C(48), UINT8_C(48), UINT8_C(48), UINT8_C(48), UINT8_C(48), UINT8_C(71), UINT8_C(71), UINT8_C(70), UINT8_C(111), UINT8_C(48), UINT8_C(48), UINT8_C(48), UINT8_C(48), UINT8_C(48), UINT8_C(48), UINT8_C(48), UINT8_C(70), UINT8_C(48), UINT8_C(48), UINT8_C(48), UINT8_C(48), UINT8_C(48), UINT8_C(48), UINT8_C(48), UINT8_C(48), UINT8_C(48), UINT8_C(48), UINT8_C(48), UINT8_C(48), UINT8_C(48), UINT8_C(72), UINT8_C(71), UINT8_C(71), UINT8_C(48), UINT8_C(48), UINT8_C(48), UINT8_C(48), UINT8_C(48), UINT8_C(48), UINT8_C(48), UINT8_C(48), UINT8_C(48), UINT8_C(48), UINT8_C(48), UINT8_C(48), UINT8_C(48), UINT8_C(48), UINT8_C(48), UINT8_C(48), UINT8_C(48), UINT8_C(48), UINT8_C(48), UINT8_C(61), UINT8_C(48), UINT8_C(48), UINT8_C(48), UINT8_C(48), UINT8_C(48), UINT8_C(48), UINT8_C(48), UINT8_C(48), UINT8_C(48), UINT8_C(48), UINT8_C(48), UINT8_C(48), UINT8_C(48), UINT8_C(48), UINT8_C(48), UINT8_C(48), UINT8_C(48), UINT8_C(48), UINT8_C(48), UINT8_C(48), UINT8_C(48), UINT8_C(48), UINT8_C(48), UINT8_C(48), UINT8_C(48), UINT8_C(48), UINT8_C(48), UINT8_C(48), UINT8_C(48), UINT8_C(48), UINT8_C(48), UINT8_C(48), UINT8_C(48), UINT8_C(48), UINT8_C(61), UINT8_C(48), UINT8_C(48), UINT8_C(48), UINT8_C(48), UINT8_C(48), UINT8_C(48), UINT8_C(48), UINT8_C(48), UINT8_C(48), UINT8_C(48), UINT8_C(48), UINT8_C(48), UINT8_C(48), UINT8_C(48), UINT8_C(48), UINT8_C(48), UINT8_C(48), UINT8_C(48), UINT8_C(48), UINT8_C(48), UINT8_C(48), UINT8_C(48), UINT8_C(48), UINT8_C(48), UINT8_C(48), UINT8_C(48), UINT8_C(48), UINT8_C(76), UINT8_C(71), UINT8_C(48), UINT8_C(48), UINT8_C(48), UINT8_C(48), UINT8_C(48), UINT8_C(71), UINT8_C(71), UINT8_C(70), UINT8_C(48), UINT8_C(48), UINT8_C(48), UINT8_C(48), UINT8_C(48), UINT8_C(48), UINT8_C(48), UINT8_C(48), UINT8_C(70), UINT8_C(48), UINT8_C(48), UINT8_C(48), UINT8_C(48), UINT8_C(48), UINT8_C(48), UINT8_C(48), UINT8_C(48), UINT8_C(48), UINT8_C(48), UINT8_C(48), UINT8_C(48), UINT8_C(48), UINT8_C(72), UINT8_C(71), UINT8_C(71), UINT8_C(111), UINT8_C(111), UINT8_C(111), UINT8_C(111), UINT8_C(111), UINT8_C(111), UINT8_C(111), UINT8_C(111), UINT8_C(111), UINT8_C(111), UINT8_C(111), UINT8_C(111), UINT8_C(111), UINT8_C(111), UINT8_C(111), UINT8_C(111), UINT8_C(111), UINT8_C(111), UINT8_C(111), UINT8_C(111), UINT8_C(111), UINT8_C(111), UINT8_C(111), UINT8_C(111), UINT8_C(111), UINT8_C(111), UINT8_C(111), UINT8_C(111), UINT8_C(111), UINT8_C(111), UINT8_C(111), UINT8_C(111), UINT8_C(111), UINT8_C(111), UINT8_C(111), UINT8_C(111), UINT8_C(111), UINT8_C(111), UINT8_C(111), UINT8_C(111), UINT8_C(111), UINT8_C(111), UINT8_C(111), UINT8_C(111), UINT8_C(111), UINT8_C(111), UINT8_C(111), UINT8_C(111), UINT8_C(111), UINT8_C(111), UINT8_C(111), UINT8_C(111), UINT8_C(75), UINT8_C(111), UINT8_C(111), UINT8_C(111), UINT8_C(111), UINT8_C(111), UINT8_C(111), UINT8_C(111), UINT8_C(73), UINT8_C(111), UINT8_C(111), UINT8_C(111), UINT8_C(111), UINT8_C(111), UINT8_C(111), UINT8_C(111), UINT8_C(111), UINT8_C(111), UINT8_C(111), UINT8_C(111), UINT8_C(111), UINT8_C(111), UINT8_C(111), UINT8_C(111), UINT8_C(111), UINT8_C(111), UINT8_C(48), UINT8_C(48), UINT8_C(48), UINT8_C(48), UINT8_C(48), UINT8_C(48), UINT8_C(48), UINT8_C(48), UINT8_C(48), UINT8_C(48), UINT8_C(48), UINT8_C(48), UINT8_C(48), UINT8_C(48), UINT8_C(48), UINT8_C(48), UINT8_C(48), UINT8_C(48), UINT8_C(48), UINT8_C(48), UINT8_C(48), UINT8_C(48), UINT8_C(48), UINT8_C(48), UINT8_C(48), UINT8_C(48), UINT8_C(48), UINT8_C(48), UINT8_C(48), UINT8_C(48), UINT8_C(48), UINT8_C(48), UINT8_C(48), UINT8_C(48), UINT8_C(48), UINT8_C(48), UINT8_C(74), UINT8_C(48), UINT8_C(48), UINT8_C(111), UINT8_C(111), UINT8_C(111), UINT8_C(111), UINT8_C(111), UINT8_C(111), UINT8_C(111), UINT8_C(111), UINT8_C(111), UINT8_C(111), UINT8_C(111), UINT8_C(111), UINT8_C(111), UINT8_C(111), UINT8_C(111), UINT8_C(111), UINT8_C(111), UINT8_C(111), UINT8_C(111), UINT8_C(111), UINT8_C(111), UINT8_C(73), UINT8_C(111), UINT8_C(111), UINT8_C(111), UINT8_C(111), UINT8_C(111), UINT8_C(111), UINT8_C(111), UINT8_C(111), UINT8_C(111), UINT8_C(111), UINT8_C(111), UINT8_C(111), UINT8_C(111), UINT8_C(111), UINT8_C(111), UINT8_C(111), UINT8_C(111), UINT8_C(48), UINT8_C(48), UINT8_C(48), UINT8_C(48), UINT8_C(76), UINT8_C(71), UINT8_C(48), UINT8_C(48), UINT8_C(48), UINT8_C(48), UINT8_C(48), UINT8_C(71), UINT8_C(71), UINT8_C(70), UINT8_C(111), UINT8_C(48), UINT8_C(48), UINT8_C(48), UINT8_C(48), UINT8_C(48), UINT8_C(48), UINT8_C(48), UINT8_C(70), UINT8_C(48), UINT8_C(48), UINT8_C(48), UINT8_C(48), UINT8_C(48), UINT8_C(48), UINT8_C(48), UINT8_C(48), UINT8_C(48), UINT8_C(48), UINT8_C(48), UINT8_C(48), UINT8_C(48), UINT8_C(72), UINT8_C(71), UINT8_C(71), UINT8_C(48), UINT8_C(48), UINT8_C(48), UINT8_C(48), UINT8_C(48), UINT8_C(48), UINT8_C(48), UINT8_C(71), UINT8_C(71), UINT8_C(71), UINT8_C(48), UINT8_C(48), UINT8_C(48), UINT8_C(48), UINT8_C(48), UINT8_C(48), UINT8_C(48), UINT8_C(48), UINT8_C(48), UINT8_C(48), UINT8_C(48), UINT8_C(48), UINT8_C(48), UINT8_C(48), UINT8_C(48), UINT8_C(48), UINT8_C(48), UINT8_C(48), UINT8_C(48), UINT8_C(48), UINT8_C(48), UINT8_C(48), UINT8_C(48), UINT8_C(48), UINT8_C(48), UINT8_C(48), UINT8_C(71), UINT8_C(48), UINT8_C(48), UINT8_C(48), UINT8_C(48), UINT8_C(48), UINT8_C(48), UINT8_C(48), UINT8_C(48), UINT8_C(80), UINT8_C(48), UINT8_C(48), UINT8_C(48), UINT8_C(48), UINT8_C(48), UINT8_C(48), UINT8_C(48), UINT8_C(48), UINT8_C(48), UINT8_C(48), UINT8_C(48), UINT8_C(48), UINT8_C(48), UINT8_C(48), UINT8_C(48), UINT8_C(48), UINT8_C(48), UINT8_C(48), UINT8_C(48), UINT8_C(48), UINT8_C(48), UINT8_C(48), UINT8_C(48), UINT8_C(48), UINT8_C(48), UINT8_C(48), UINT8_C(48), UINT8_C(48), UINT8_C(48), UINT8_C(78), UINT8_C(48), UINT8_C(48), UINT8_C(48), UINT8_C(48), UINT8_C(48), UINT8_C(48), UINT8_C(48), UINT8_C(48), UINT8_C(48), UINT8_C(48), UINT8_C(48), UINT8_C(48), UINT8_C(48), UINT8_C(48), UINT8_C(48), UINT8_C(48), UINT8_C(111), UINT8_C(48), UINT8_C(48), UINT8_C(48), UINT8_C(48), UINT8_C(48), UINT8_C(48), UINT8_C(79), UINT8_C(48), UINT8_C(48), UINT8_C(48), UINT8_C(48), UINT8_C(48), UINT8_C(77), UINT8_C(48), UINT8_C(48), UINT8_C(48), UINT8_C(48), UINT8_C(48), UINT8_C(48), UINT8_C(48), UINT8_C(48), UINT8_C(48), UINT8_C(48), UINT8_C(48), UINT8_C(48), UINT8_C(48), UINT8_C(48), UINT8_C(48), UINT8_C(48), UINT8_C(48), UINT8_C(48), UINT8_C(48), UINT8_C(48), UINT8_C(48), UINT8_C(48), UINT8_C(48), UINT8_C(48), UINT8_C(48), UINT8_C(48), UINT8_C(48), UINT8_C(48), UINT8_C(48), UINT8_C(48), UINT8_C(48), UINT8_C(48), UINT8_C(48), UINT8_C(48), UINT8_C(48), UINT8_C(48), UINT8_C(48), UINT8_C(48), UINT8_C(48), UINT8_C(48), UINT8_C(48), UINT8_C(48), UINT8_C(48), UINT8_C(48), UINT8_C(48), UINT8_C(48), UINT8_C(48), UINT8_C(81), UINT8_C(48), UINT8_C(48), UINT8_C(48), UINT8_C(48), UINT8_C(48), UINT8_C(48), UINT8_C(48), UINT8_C(48), UINT8_C(48), UINT8_C(48), UINT8_C(48), UINT8_C(48), UINT8_C(48), UINT8_C(48), UINT8_C(48), UINT8_C(77), UINT8_C(48), UINT8_C(48), UINT8_C(48), UINT8_C(48), UINT8_C(48), UINT8_C(48), UINT8_C(48), UINT8_C(48), UINT8_C(48), UINT8_C(48), UINT8_C(48), UINT8_C(48), UINT8_C(48), UINT8_C(48), UINT8_C(48), UINT8_C(48), UINT8_C(48), UINT8_C(48), UINT8_C(48), UINT8_C(48), UINT8_C(48), UINT8_C(48), UINT8_C(48), UINT8_C(48), UINT8_C(48), UINT8_C(48), UINT8_C(48), UINT8_C(48), UINT8_C(48), UINT8_C(48), UINT8_C(48), UINT8_C(48), UINT8_C(48), UINT8_C(48), UINT8_C(48), UINT8_C(48), UINT8_C(48), UINT8_C(48), UINT8_C(48), UINT8_C(111), UINT8_C(48), UINT8_C(48), UINT8_C(48), UINT8_C(48), UINT8_C(48), UINT8_C(48), UINT8_C(48), UINT8_C(48), UINT8_C(48), UINT8_C(48), UINT8_C(48), UINT8_C(48), UINT8_C(77), UINT8_C(48), UINT8_C(48), UINT8_C(48), UINT8_C(48), UINT8_C(48), UINT8_C(48), UINT8_C(48), UINT8_C(48), UINT8_C(48), UINT8_C(48), UINT8_C(48), UINT8_C(48), UINT8_C(48), UINT8_C(48), UINT8_C(48), UINT8_C(48), UINT8_C(48), UINT8_C(48), UINT8_C(48), UINT8_C(48), UINT8_C(48), UINT8_C(48), UINT8_C(48), UINT8_C(48), UINT8_C(48), UINT8_C(81), UINT8_C(48), UINT8_C(48), UINT8_C(48), UINT8_C(48), UINT8_C(48), UINT8_C(48), UINT8_C(48), UINT8_C(48), UINT8_C(48), UINT8_C(48), UINT8_C(48), UINT8_C(48), UINT8_C(48), UINT8_C(48), UINT8_C(48), UINT8_C(48), UINT8_C(48), UINT8_C(48), UINT8_C(48), UINT8_C(48), UINT8_C(48), UINT8_C(48), UINT8_C(48), UINT8_C(48), UINT8_C(48), UINT8_C(48), UINT8_C(48), UINT8_C(48), UINT8_C(48), UINT8_C(48), UINT8_C(48), UINT8_C(48), UINT8_C(48), UINT8_C(48), UINT8_C(48), UINT8_C(48), UINT8_C(48), UINT8_C(48), UINT8_C(71), UINT8_C(48), UINT8_C(48), UINT8_C(48), UINT8_C(48), UINT8_C(48), UINT8_C(48), UINT8_C(48), UINT8_C(48), UINT8_C(70), UINT8_C(70), UINT8_C(70), UINT8_C(70), UINT8_C(70), UINT8_C(70), UINT8_C(70), UINT8_C(70), UINT8_C(70), UINT8_C(70), UINT8_C(70), UINT8_C(70), UINT8_C(70), UINT8_C(48), UINT8_C(48), UINT8_C(48), UINT8_C(48), UINT8_C(48), UINT8_C(48), UINT8_C(48), UINT8_C(48), UINT8_C(48), UINT8_C(48), UINT8_C(48), UINT8_C(48), UINT8_C(48), UINT8_C(48), UINT8_C(48), UINT8_C(48), UINT8_C(48), UINT8_C(71), UINT8_C(48), UINT8_C(48), UINT8_C(70), UINT8_C(48), UINT8_C(48), UINT8_C(48), UINT8_C(48), UINT8_C(48), UINT8_C(70), UINT8_C(70), UINT8_C(70), UINT8_C(70), UINT8_C(70), UINT8_C(70), UINT8_C(70), UINT8_C(70), UINT8_C(70), UINT8_C(70), UINT8_C(70), UINT8_C(70), UINT8_C(70), UINT8_C(48), UINT8_C(48), UINT8_C(48), UINT8_C(48), UINT8_C(48), UINT8_C(48), UINT8_C(48), UINT8_C(48), UINT8_C(48), UINT8_C(48), UINT8_C(48), UINT8_C(48), UINT8_C(48), UINT8_C(48), UINT8_C(48), UINT8_C(48), UINT8_C(48), UINT8_C(68), UINT8_C(48), UINT8_C(48), UINT8_C(70), UINT8_C(48), UINT8_C(48), UINT8_C(48), UINT8_C(48), UINT8_C(48), UINT8_C(70), UINT8_C(70), UINT8_C(70), UINT8_C(70), UINT8_C(70), UINT8_C(70), UINT8_C(70), UINT8_C(70), UINT8_C(70), UINT8_C(70), UINT8_C(70), UINT8_C(70), UINT8_C(70), UINT8_C(48), UINT8_C(48), UINT8_C(48), UINT8_C(48), UINT8_C(48), UINT8_C(48), UINT8_C(69), UINT8_C(48), UINT8_C(48), UINT8_C(48), UINT8_C(48), UINT8_C(48), UINT8_C(48), UINT8_C(48), UINT8_C(48), UINT8_C(48), UINT8_C(48), UINT8_C(48), UINT8_C(48), UINT8_C(48), UINT8_C(48), UINT8_C(48), UINT8_C(48), UINT8_C(48), UINT8_C(48), UINT8_C(48), UINT8_C(70), UINT8_C(70), UINT8_C(70), UINT8_C(70), UINT8_C(70), UINT8_C(70), UINT8_C(70), UINT8_C(70), UINT8_C(70), UINT8_C(70), UINT8_C(70), UINT8_C(70), UINT8_C(70), UINT8_C(48), UINT8_C(48), UINT8_C(48), UINT8_C(48), UINT8_C(48), UINT8_C(48), UINT8_C(48), UINT8_C(48), UINT8_C(48), UINT8_C(48), UINT8_C(48), UINT8_C(48), UINT8_C(48), UINT8_C(48), UINT8_C(48), UINT8_C(48), UINT8_C(48), UINT8_C(48), UINT8_C(48), UINT8_C(48), UINT8_C(48), UINT8_C(48), UINT8_C(61), UINT8_C(48), UINT8_C(48), UINT8_C(48), UINT8_C(70), UINT8_C(70), UINT8_C(70), UINT8_C(70), UINT8_C(70), UINT8_C(70), UINT8_C(70), UINT8_C(70), UINT8_C(70), UINT8_C(70), UINT8_C(70), UINT8_C(70), UINT8_C(70), UINT8_C(48), UINT8_C(48), UINT8_C(48), UINT8_C(48), UINT8_C(48), UINT8_C(48), UINT8_C(48), UINT8_C(48), UINT8_C(48), UINT8_C(48), UINT8_C(48), UINT8_C(48), UINT8_C(48), UINT8_C(48), UINT8_C(48), UINT8_C(48), UINT8_C(48), UINT8_C(48), UINT8_C(48), UINT8_C(59), UINT8_C(48), UINT8_C(48), UINT8_C(48), UINT8_C(48), UINT8_C(48), UINT8_C(48), UINT8_C(48), UINT8_C(48), UINT8_C(48), UINT8_C(48), UINT8_C(48), UINT8_C(48), UINT8_C(48), UINT8_C(48), UINT8_C(48), UINT8_C(48), UINT8_C(48), UINT8_C(48), UINT8_C(48), UINT8_C(48), UINT8_C(48), UINT8_C(48), UINT8_C(48), UINT8_C(48), UINT8_C(48), UINT8_C(48), UINT8_C(48), UINT8_C(48), UINT8_C(48), UINT8_C(48), UINT8_C(48), UINT8_C(48), UINT8_C(48), UINT8_C(48), UINT8_C(48), UINT8_C(48), UINT8_C(48), UINT8_C(48), UINT8_C(61), UINT8_C(48), UINT8_C(48), UINT8_C(48), UINT8_C(48), UINT8_C(48), UINT8_C(48), UINT8_C(48), UINT8_C(48), UINT8_C(48), UINT8_C(48), UINT8_C(48), UINT8_C(48), UINT8_C(48), UINT8_C(48), UINT8_C(48), UINT8_C(48), UINT8_C(48), UINT8_C(48), UINT8_C(48), UINT8_C(48), UINT8_C(48), UINT8_C(48), UINT8_C(48), UINT8_C(48), UINT8_C(48), UINT8_C(48), UINT8_C(48), UINT8_C(48), UINT8_C(48), UINT8_C(48), UINT8_C(48), UINT8_C(48), UINT8_C(48), UINT8_C(48), UINT8_C(48), UINT8_C(48), UINT8_C(71), UINT8_C(48), UINT8_C(48), UINT8_C(48), UINT8_C(48), UINT8_C(48), UINT8_C(48), UINT8_C(48), UINT8_C(48), UINT8_C(48), UINT8_C(48), UINT8_C(48), UINT8_C(48), UINT8_C(48), UINT8_C(48), UINT8_C(70), UINT8_C(70), UINT8_C(70), UINT8_C(70), UINT8_C(70), UINT8_C(70), UINT8_C(70), UINT8_C(48), UINT8_C(48), UINT8_C(48), UINT8_C(48), UINT8_C(48), UINT8_C(48), UINT8_C(48), UINT8_C(48), UINT8_C(48), UINT8_C(48), UINT8_C(48), UINT8_C(48), UINT8_C(48), UINT8_C(48), UINT8_C(48), UINT8_C(48), UINT8_C(48), UINT8_C(71), UINT8_C(48), UINT8_C(48), UINT8_C(70), UINT8_C(48), UINT8_C(48), UINT8_C(48), UINT8_C(48), UINT8_C(48), UINT8_C(48), UINT8_C(48), UINT8_C(48), UINT8_C(48), UINT8_C(48), UINT8_C(48), UINT8_C(70), UINT8_C(70), UINT8_C(70), UINT8_C(70), UINT8_C(70), UINT8_C(70), UINT8_C(70), UINT8_C(48), UINT8_C(48), UINT8_C(48), UINT8_C(48), UINT8_C(48), UINT8_C(48), UINT8_C(48), UINT8_C(48), UINT8_C(48), UINT8_C(48), UINT8_C(48), UINT8_C(48), UINT8_C(48), UINT8_C(48), UINT8_C(48), UINT8_C(48), UINT8_C(48), UINT8_C(68), UINT8_C(48), UINT8_C(48), UINT8_C(70), UINT8_C(48), UINT8_C(48), UINT8_C(48), UINT8_C(48), UINT8_C(48), UINT8_C(48), UINT8_C(48), UINT8_C(48), UINT8_C(48), UINT8_C(48), UINT8_C(48), UINT8_C(70), UINT8_C(70), UINT8_C(70), UINT8_C(70), UINT8_C(70), UINT8_C(70), UINT8_C(70), UINT8_C(48), UINT8_C(48), UINT8_C(48), UINT8_C(48), UINT8_C(48), UINT8_C(48), UINT8_C(69), UINT8_C(48), UINT8_C(48), UINT8_C(48), UINT8_C(48), UINT8_C(48), UINT8_C(48), UINT8_C(48), UINT8_C(48), UINT8_C(48), UINT8_C(48), UINT8_C(48), UINT8_C(48), UINT8_C(48), UINT8_C(48), UINT8_C(48), UINT8_C(48), UINT8_C(48), UINT8_C(48), UINT8_C(48), UINT8_C(48), UINT8_C(48), UINT8_C(48), UINT8_C(48), UINT8_C(48), UINT8_C(48), UINT8_C(70), UINT8_C(70), UINT8_C(70), UINT8_C(70), UINT8_C(70), UINT8_C(70), UINT8_C(70), UINT8_C(48), UINT8_C(48), UINT8_C(48), UINT8_C(48), UINT8_C(48), UINT8_C(48), UINT8_C(48), UINT8_C(48), UINT8_C(48), UINT8_C(48), UINT8_C(48), UINT8_C(48), UINT8_C(48), UINT8_C(48), UINT8_C(48), UINT8_C(48), UINT8_C(48), UINT8_C(48), UINT8_C(48), UINT8_C(48), UINT8_C(48), UINT8_C(48), UINT8_C(61), UINT8_C(48), UINT8_C(48), UINT8_C(48), UINT8_C(48), UINT8_C(48), UINT8_C(48), UINT8_C(48), UINT8_C(48), UINT8_C(48), UINT8_C(70), UINT8_C(70), UINT8_C(70), UINT8_C(70), UINT8_C(70), UINT8_C(70), UINT8_C(70), UINT8_C(48), UINT8_C(48), UINT8_C(48) } };
-static const struct rt_array_uint8_1833 derive__step__l6 = { { UINT8_C(48), UINT8_C(48), UINT8_C(48), UINT8_C(48), UINT8_C(48), UINT8_C(48), UINT8_C(48), UINT8_C(48), UINT8_C(48), UINT8_C(48), UINT8_C(48), UINT8_C(48), UINT8_C(48), UINT8_C(48), UINT8_C(48), UINT8_C(48), UINT8_C(48), UINT8_C(48), UINT8_C(48), UINT8_C(48), UINT8_C(48), UINT8_C(48), UINT8_C(48), UINT8_C(48), UINT8_C(48), UINT8_C(48), UINT8_C(48), UINT8_C(48), UINT8_C(48), UINT8_C(48), UINT8_C(48), UINT8_C(48), UINT8_C(48), UINT8_C(48), UINT8_C(48), UINT8_C(48), UINT8_C(48), UINT8_C(48), UINT8_C(48), UINT8_C(48), UINT8_C(48), UINT8_C(48), UINT8_C(48), UINT8_C(48), UINT8_C(48), UINT8_C(48), UINT8_C(48), UINT8_C(48), UINT8_C(48), UINT8_C(48), UINT8_C(48), UINT8_C(48), UINT8_C(48), UINT8_C(48), UINT8_C(48), UINT8_C(48), UINT8_C(48), UINT8_C(48), UINT8_C(48), UINT8_C(48), UINT8_C(48), UINT8_C(48), UINT8_C(48), UINT8_C(48), UINT8_C(48), UINT8_C(48), UINT8_C(48), UINT8_C(48), UINT8_C(48), UINT8_C(48), UINT8_C(48), UINT8_C(48), UINT8_C(48), UINT8_C(48), UINT8_C(48), UINT8_C(48), UINT8_C(48), UINT8_C(48), UINT8_C(48), UINT8_C(48), UINT8_C(48), UINT8_C(48), UINT8_C(48), UINT8_C(48), UINT8_C(48), UINT8_C(48), UINT8_C(48), UINT8_C(48), UINT8_C(48), UINT8_C(48), UINT8_C(48), UINT8_C(48), UINT8_C(48), UINT8_C(48), UINT8_C(48), UINT8_C(48), UINT8_C(48), UINT8_C(48), UINT8_C(48), UINT8_C(48), UINT8_C(48), UINT8_C(48), UINT8_C(48), UINT8_C(48), UINT8_C(48), UINT8_C(48), UINT8_C(48), UINT8_C(48), UINT8_C(48), UINT8_C(48), UINT8_C(48), UINT8_C(48), UINT8_C(48), UINT8_C(48), UINT8_C(48), UINT8_C(48), UINT8_C(48), UINT8_C(48), UINT8_C(48), UINT8_C(48), UINT8_C(48), UINT8_C(48), UINT8_C(48), UINT8_C(48), UINT8_C(48), UINT8_C(48), UINT8_C(48), UINT8_C(48), UINT8_C(48), UINT8_C(48), UINT8_C(48), UINT8_C(48), UINT8_C(48), UINT8_C(48), UINT8_C(48), UINT8_C(48), UINT8_C(48), UINT8_C(48), UINT8_C(48), UINT8_C(48), UINT8_C(48), UINT8_C(48), UINT8_C(48), UINT8_C(48), UINT8_C(48), UINT8_C(48), UINT8_C(48), UINT8_C(48), UINT8_C(48), UINT8_C(48), UINT8_C(48), UINT8_C(48), UINT8_C(48), UINT8_C(48), UINT8_C(48), UINT8_C(48), UINT8_C(48), UINT8_C(48), UINT8_C(48), UINT8_C(48), UINT8_C(48), UINT8_C(48), UINT8_C(48), UINT8_C(48), UINT8_C(48), UINT8_C(48), UINT8_C(48), UINT8_C(48), UINT8_C(48), UINT8_C(48), UINT8_C(48), UINT8_C(48), UINT8_C(48), UINT8_C(48), UINT8_C(48), UINT8_C(48), UINT8_C(48), UINT8_C(48), UINT8_C(48), UINT8_C(48), UINT8_C(48), UINT8_C(48), UINT8_C(48), UINT8_C(48), UINT8_C(48), UINT8_C(48), UINT8_C(48), UINT8_C(48), UINT8_C(48), UINT8_C(48), UINT8_C(48), UINT8_C(48), UINT8_C(48), UINT8_C(48), UINT8_C(48), UINT8_C(48), UINT8_C(48), UINT8_C(48), UINT8_C(48), UINT8_C(48), UINT8_C(48), UINT8_C(48), UINT8_C(48), UINT8_C(48), UINT8_C(48), UINT8_C(48), UINT8_C(48), UINT8_C(48), UINT8_C(48), UINT8_C(48), UINT8_C(48), UINT8_C(48), UINT8_C(48), UINT8_C(48), UINT8_C(48), UINT8_C(48), UINT8_C(48), UINT8_C(48), UINT8_C(48), UINT8_C(48), UINT8_C(48), UINT8_C(48), UINT8_C(48), UINT8_C(48), UINT8_C(48), UINT8_C(48), UINT8_C(48), UINT8_C(48), UINT8_C(48), UINT8_C(48), UINT8_C(48), UINT8_C(48), UINT8_C(48), UINT8_C(48), UINT8_C(48), UINT8_C(48), UINT8_C(48), UINT8_C(48), UINT8_C(48), UINT8_C(48), UINT8_C(48), UINT8_C(48), UINT8_C(48), UINT8_C(48), UINT8_C(48), UINT8_C(48), UINT8_C(48), UINT8_C(48), UINT8_C(48), UINT8_C(48), UINT8_C(48), UINT8_C(48), UINT8_C(48), UINT8_C(48), UINT8_C(48), UINT8_C(48), UINT8_C(48), UINT8_C(48), UINT8_C(48), UINT8_C(48), UINT8_C(48), UINT8_C(48), UINT8_C(48), UINT8_C(48), UINT8_C(48), UINT8_C(48), UINT8_C(48), UINT8_C(48), UINT8_C(48), UINT8_C(48), UINT8_C(48), UINT8_C(48), UINT8_C(48), UINT8_C(48), UINT8_C(48), UINT8_C(48), UINT8_C(48), UINT8_C(48), UINT8_C(48), UINT8_C(48), UINT8_C(48), UINT8_C(48), UINT8_C(48), UINT8_C(48), UINT8_C(48), UINT8_C(48), UINT8_C(48), UINT8_C(48), UINT8_C(48), UINT8_C(48), UINT8_C(48), UINT8_C(48), UINT8_C(48), UINT8_C(48), UINT8_C(48), UINT8_C(48), UINT8_C(48), UINT8_C(48), UINT8_C(48), UINT8_C(48), UINT8_C(48), UINT8_C(48), UINT8_C(48), UINT8_C(48), UINT8_C(48), UINT8_C(48), UINT8_C(48), UINT8_C(48), UINT8_C(48), UINT8_C(48), UINT8_C(48), UINT8_C(48), UINT8_C(48), UINT8_C(48), UINT8_C(48), UINT8_C(48), UINT8_C(48), UINT8_C(48), UINT8_C(48), UINT8_C(48), UINT8_C(48), UINT8_C(48), UINT8_C(48), UINT8_C(48), UINT8_C(48), UINT8_C(48), UINT8_C(48), UINT8_C(48), UINT8_C(48), UINT8_C(48), UINT8_C(48), UINT8_C(48), UINT8_C(48), UINT8_C(48), UINT8_C(48), UINT8_C(48), UINT8_C(48), UINT8_C(48), UINT8_C(48), UINT8_C(48), UINT8_C(48), UINT8_C(48), UINT8_C(48), UINT8_C(48), UINT8_C(48), UINT8_C(48), UINT8_C(48), UINT8_C(48), UINT8_C(48), UINT8_C(48), UINT8_C(48), UINT8_C(48), UINT8_C(48), UINT8_C(48), UINT8_C(48), UINT8_C(48), UINT8_C(48), UINT8_C(48), UINT8_C(48), UINT8_C(48), UINT8_C(48), UINT8_C(48), UINT8_C(48), UINT8_C(48), UINT8_C(48), UINT8_C(48), UINT8_C(48), UINT8_C(48), UINT8_C(48), UINT8_C(48), UINT8_C(48), UINT8_C(48), UINT8_C(48), UINT8_C(48), UINT8_C(48), UINT8_C(48), UINT8_C(48), UINT8_C(48), UINT8_C(48), UINT8_C(48), UINT8_C(48), UINT8_C(48), UINT8_C(48), UINT8_C(48), UINT8_C(48), UINT8_C(48), UINT8_C(48), UINT8_C(48), UINT8_C(48), UINT8_C(48), UINT8_C(48), UINT8_C(48), UINT8_C(48), UINT8_C(48), UINT8_C(48), UINT8_C(48), UINT8_C(48), UINT8_C(48), UINT8_C(48), UINT8_C(48), UINT8_C(48), UINT8_C(48), UINT8_C(48), UINT8_C(48), UINT8_C(48), UINT8_C(48), UINT8_C(48), UINT8_C(48), UINT8_C(48), UINT8_C(48), UINT8_C(48), UINT8_C(48), UINT8_C(48), UINT8_C(48), UINT8_C(48), UINT8_C(48), UINT8_C(48), UINT8_C(48), UINT8_C(48), UINT8_C(48), UINT8_C(48), UINT8_C(48), UINT8_C(48), UINT8_C(48), UINT8_C(48), UINT8_C(48), UINT8_C(48), UINT8_C(48), UINT8_C(48), UINT8_C(48), UINT8_C(48), UINT8_C(48), UINT8_C(48), UINT8_C(48), UINT8_C(48), UINT8_C(48), UINT8_C(48), UINT8_C(48), UINT8_C(48), UINT8_C(48), UINT8_C(48), UINT8_C(48), UINT8_C(48), UINT8_C(48), UINT8_C(48), UINT8_C(48), UINT8_C(48), UINT8_C(48), UINT8_C(48), UINT8_C(48), UINT8_C(48), UINT8_C(48), UINT8_C(48), UINT8_C(48), UINT8_C(48), UINT8_C(48), UINT8_C(48), UINT8_C(48), UINT8_C(48), UINT8_C(48), UINT8_C(48), UINT8_C(48), UINT8_C(48), UINT8_C(48), UINT8_C(48), UINT8_C(48), UINT8_C(48), UINT8_C(48), UINT8_C(48), UINT8_C(48), UINT8_C(48), UINT8_C(48), UINT8_C(48), UINT8_C(48), UINT8_C(48), UINT8_C(48), UINT8_C(48), UINT8_C(48), UINT8_C(48), UINT8_C(48), UINT8_C(48), UINT8_C(48), UINT8_C(48), UINT8_C(88), UINT8_C(48), UINT8_C(48), UINT8_C(48), UINT8_C(48), UINT8_C(48), UINT8_C(48), UINT8_C(48), UINT8_C(48), UINT8_C(48), UINT8_C(48), UINT8_C(48), UINT8_C(48), UINT8_C(48), UINT8_C(48), UINT8_C(48), UINT8_C(48), UINT8_C(48), UINT8_C(48), UINT8_C(48), UINT8_C(48), UINT8_C(48), UINT8_C(48), UINT8_C(48), UINT8_C(48), UINT8_C(48), UINT8_C(86), UINT8_C(48), UINT8_C(48), UINT8_C(48), UINT8_C(48), UINT8_C(48), UINT8_C(48), UINT8_C(48), UINT8_C(48), UINT8_C(48), UINT8_C(48), UINT8_C(48), UINT8_C(48), UINT8_C(48), UINT8_C(48), UINT8_C(48), UINT8_C(48), UINT8_C(48), UINT8_C(48), UINT8_C(48), UINT8_C(48), UINT8_C(48), UINT8_C(48), UINT8_C(48), UINT8_C(48), UINT8_C(48), UINT8_C(48), UINT8_C(48), UINT8_C(48), UINT8_C(48), UINT8_C(48), UINT8_C(48), UINT8_C(48), UINT8_C(48), UINT8_C(48), UINT8_C(48), UINT8_C(48), UINT8_C(48), UINT8_C(48), UINT8_C(48), UINT8_C(48), UINT8_C(48), UINT8_C(48), UINT8_C(48), UINT8_C(48), UINT8_C(48), UINT8_C(48), UINT8_C(48), UINT8_C(48), UINT8_C(48), UINT8_C(85), UINT8_C(48), UINT8_C(48), UINT8_C(48), UINT8_C(48), UINT8_C(48), UINT8_C(48), UINT8_C(87), UINT8_C(48), UINT8_C(48), UINT8_C(48), UINT8_C(48), UINT8_C(48), UINT8_C(48), UINT8_C(48), UINT8_C(48), UINT8_C(48), UINT8_C(48), UINT8_C(48), UINT8_C(48), UINT8_C(48), UINT8_C(48), UINT8_C(48), UINT8_C(48), UINT8_C(48), UINT8_C(48), UINT8_C(48), UINT8_C(48), UINT8_C(48), UINT8_C(48), UINT8_C(48), UINT8_C(48), UINT8_C(48), UINT8_C(48), UINT8_C(48), UINT8_C(48), UINT8_C(48), UINT8_C(48), UINT8_C(48), UINT8_C(48), UINT8_C(48), UINT8_C(48), UINT8_C(48), UINT8_C(48), UINT8_C(48), UINT8_C(48), UINT8_C(48), UINT8_C(48), UINT8_C(48), UINT8_C(48), UINT8_C(48), UINT8_C(48), UINT8_C(48), UINT8_C(48), UINT8_C(48), UINT8_C(48), UINT8_C(48), UINT8_C(48), UINT8_C(48), UINT8_C(48), UINT8_C(48), UINT8_C(48), UINT8_C(48), UINT8_C(48), UINT8_C(48), UINT8_C(48), UINT8_C(48), UINT8_C(48), UINT8_C(48), UINT8_C(48), UINT8_C(48), UINT8_C(48), UINT8_C(48), UINT8_C(48), UINT8_C(48), UINT8_C(48), UINT8_C(48), UINT8_C(48), UINT8_C(48), UINT8_C(48), UINT8_C(48), UINT8_C(48), UINT8_C(48), UINT8_C(48), UINT8_C(48), UINT8_C(87), UINT8_C(48), UINT8_C(48), UINT8_C(48), UINT8_C(48), UINT8_C(48), UINT8_C(48), UINT8_C(48), UINT8_C(48), UINT8_C(48), UINT8_C(48), UINT8_C(48), UINT8_C(48), UINT8_C(48), UINT8_C(48), UINT8_C(48), UINT8_C(48), UINT8_C(48), UINT8_C(48), UINT8_C(48), UINT8_C(48), UINT8_C(48), UINT8_C(48), UINT8_C(48), UINT8_C(48), UINT8_C(48), UINT8_C(48), UINT8_C(48), UINT8_C(48), UINT8_C(48), UINT8_C(48), UINT8_C(48), UINT8_C(48), UINT8_C(48), UINT8_C(48), UINT8_C(48), UINT8_C(48), UINT8_C(48), UINT8_C(48), UINT8_C(48), UINT8_C(48), UINT8_C(48), UINT8_C(48), UINT8_C(48), UINT8_C(48), UINT8_C(48), UINT8_C(48), UINT8_C(48), UINT8_C(48), UINT8_C(48), UINT8_C(48), UINT8_C(48), UINT8_C(48), UINT8_C(48), UINT8_C(48), UINT8_C(48), UINT8_C(48), UINT8_C(48), UINT8_C(48), UINT8_C(48), UINT8_C(48), UINT8_C(48), UINT8_C(48), UINT8_C(48), UINT8_C(48), UINT8_C(48), UINT8_C(48), UINT8_C(48), UINT8_C(48), UINT8_C(48), UINT8_C(48), UINT8_C(48), UINT8_C(48), UINT8_C(48), UINT8_C(48), UINT8_C(48), UINT8_C(48), UINT8_C(48), UINT8_C(87), UINT8_C(48), UINT8_C(48), UINT8_C(48), UINT8_C(48), UINT8_C(48), UINT8_C(48), UINT8_C(48), UINT8_C(48), UINT8_C(48), UINT8_C(48), UINT8_C(48), UINT8_C(48), UINT8_C(48), UINT8_C(48), UINT8_C(48), UINT8_C(48), UINT8_C(48), UINT8_C(48), UINT8_C(48), UINT8_C(48), UINT8_C(48), UINT8_C(48), UINT8_C(48), UINT8_C(48), UINT8_C(48), UINT8_C(48), UINT8_C(48), UINT8_C(48), UINT8_C(48), UINT8_C(48), UINT8_C(48), UINT8_C(83), UINT8_C(48), UINT8_C(48), UINT8_C(48), UINT8_C(48), UINT8_C(48), UINT8_C(48), UINT8_C(48), UINT8_C(48), UINT8_C(48), UINT8_C(48), UINT8_C(48), UINT8_C(48), UINT8_C(48), UINT8_C(48), UINT8_C(48), UINT8_C(48), UINT8_C(48), UINT8_C(48), UINT8_C(48), UINT8_C(48), UINT8_C(48), UINT8_C(48), UINT8_C(48), UINT8_C(48), UINT8_C(48), UINT8_C(48), UINT8_C(48), UINT8_C(48), UINT8_C(48), UINT8_C(48), UINT8_C(48), UINT8_C(48), UINT8_C(48), UINT8_C(48), UINT8_C(48), UINT8_C(48), UINT8_C(48), UINT8_C(48), UINT8_C(48), UINT8_C(48), UINT8_C(48), UINT8_C(48), UINT8_C(48), UINT8_C(48), UINT8_C(48), UINT8_C(48), UINT8_C(48), UINT8_C(48), UINT8_C(48), UINT8_C(48), UINT8_C(48), UINT8_C(48), UINT8_C(48), UINT8_C(48), UINT8_C(48), UINT8_C(48), UINT8_C(48), UINT8_C(48), UINT8_C(48), UINT8_C(48), UINT8_C(48), UINT8_C(48), UINT8_C(48), UINT8_C(48), UINT8_C(48), UINT8_C(48), UINT8_C(48), UINT8_C(48), UINT8_C(48), UINT8_C(48), UINT8_C(48), UINT8_C(48), UINT8_C(48), UINT8_C(48), UINT8_C(48), UINT8_C(48), UINT8_C(48), UINT8_C(48), UINT8_C(48), UINT8_C(89), UINT8_C(48), UINT8_C(48), UINT8_C(48), UINT8_C(48), UINT8_C(48), UINT8_C(48), UINT8_C(48), UINT8_C(48), UINT8_C(48), UINT8_C(48), UINT8_C(48), UINT8_C(48), UINT8_C(48), UINT8_C(48), UINT8_C(48), UINT8_C(48), UINT8_C(48), UINT8_C(48), UINT8_C(48), UINT8_C(48), UINT8_C(48), UINT8_C(48), UINT8_C(48), UINT8_C(48), UINT8_C(48), UINT8_C(48), UINT8_C(48), UINT8_C(48), UINT8_C(48), UINT8_C(48), UINT8_C(48), UINT8_C(48), UINT8_C(48), UINT8_C(48), UINT8_C(48), UINT8_C(48), UINT8_C(83), UINT8_C(48), UINT8_C(48), UINT8_C(48), UINT8_C(48), UINT8_C(48), UINT8_C(48), UINT8_C(48), UINT8_C(48), UINT8_C(48), UINT8_C(48), UINT8_C(48), UINT8_C(48), UINT8_C(48), UINT8_C(48), UINT8_C(48), UINT8_C(48), UINT8_C(48), UINT8_C(48), UINT8_C(48), UINT8_C(48), UINT8_C(48), UINT8_C(48), UINT8_C(48), UINT8_C(48), UINT8_C(48), UINT8_C(48), UINT8_C(48), UINT8_C(48), UINT8_C(48), UINT8_C(48), UINT8_C(48), UINT8_C(48), UINT8_C(48), UINT8_C(48), UINT8_C(48), UINT8_C(48), UINT8_C(48), UINT8_C(48), UINT8_C(48), UINT8_C(48), UINT8_C(48), UINT8_C(48), UINT8_C(48), UINT8_C(48), UINT8_C(48), UINT8_C(48), UINT8_C(48), UINT8_C(48), UINT8_C(48), UINT8_C(48), UINT8_C(48), UINT8_C(48), UINT8_C(48), UINT8_C(48), UINT8_C(48), UINT8_C(48), UINT8_C(48), UINT8_C(48), UINT8_C(48), UINT8_C(48), UINT8_C(48), UINT8_C(48), UINT8_C(48), UINT8_C(48), UINT8_C(48), UINT8_C(48), UINT8_C(48), UINT8_C(48), UINT8_C(48), UINT8_C(48), UINT8_C(48), UINT8_C(48), UINT8_C(48), UINT8_C(48), UINT8_C(48), UINT8_C(48), UINT8_C(48), UINT8_C(84), UINT8_C(48), UINT8_C(48), UINT8_C(48), UINT8_C(48), UINT8_C(48), UINT8_C(48), UINT8_C(48), UINT8_C(48), UINT8_C(48), UINT8_C(48), UINT8_C(48), UINT8_C(48), UINT8_C(48), UINT8_C(48), UINT8_C(48), UINT8_C(48), UINT8_C(48), UINT8_C(48), UINT8_C(48), UINT8_C(48), UINT8_C(48), UINT8_C(48), UINT8_C(48), UINT8_C(48), UINT8_C(48), UINT8_C(48), UINT8_C(48), UINT8_C(48), UINT8_C(48), UINT8_C(48), UINT8_C(48), UINT8_C(48), UINT8_C(48), UINT8_C(48), UINT8_C(48), UINT8_C(48), UINT8_C(48), UINT8_C(48), UINT8_C(48), UINT8_C(48), UINT8_C(48), UINT8_C(48), UINT8_C(48), UINT8_C(48), UINT8_C(48), UINT8_C(48), UINT8_C(48), UINT8_C(48), UINT8_C(48), UINT8_C(48), UINT8_C(48), UINT8_C(48), UINT8_C(48), UINT8_C(48), UINT8_C(48), UINT8_C(48), UINT8_C(48), UINT8_C(48), UINT8_C(48), UINT8_C(48), UINT8_C(48), UINT8_C(48), UINT8_C(48), UINT8_C(48), UINT8_C(48), UINT8_C(48), UINT8_C(48), UINT8_C(48), UINT8_C(48), UINT8_C(48), UINT8_C(48), UINT8_C(48), UINT8_C(48), UINT8_C(48), UINT8_C(48), UINT8_C(48), UINT8_C(48), UINT8_C(48), UINT8_C(48), UINT8_C(48), UINT8_C(48), UINT8_C(48), UINT8_C(48), UINT8_C(48), UINT8_C(48), UINT8_C(48), UINT8_C(48), UINT8_C(48), UINT8_C(48), UINT8_C(48), UINT8_C(48), UINT8_C(48), UINT8_C(48), UINT8_C(48), UINT8_C(48), UINT8_C(48), UINT8_C(48), UINT8_C(48), UINT8_C(48), UINT8_C(48), UINT8_C(48), UINT8_C(48), UINT8_C(48), UINT8_C(48), UINT8_C(48), UINT8_C(48), UINT8_C(48), UINT8_C(48), UINT8_C(48), UINT8_C(48), UINT8_C(48), UINT8_C(48), UINT8_C(48), UINT8_C(48), UINT8_C(48), UINT8_C(48), UINT8_C(83), UINT8_C(48), UINT8_C(48), UINT8_C(48), UINT8_C(48), UINT8_C(48), UINT8_C(48), UINT8_C(48), UINT8_C(48), UINT8_C(48), UINT8_C(48), UINT8_C(48), UINT8_C(48), UINT8_C(48), UINT8_C(48), UINT8_C(48), UINT8_C(48), UINT8_C(48), UINT8_C(48), UINT8_C(48), UINT8_C(48), UINT8_C(48), UINT8_C(48), UINT8_C(48), UINT8_C(48), UINT8_C(48), UINT8_C(48), UINT8_C(48), UINT8_C(48), UINT8_C(48), UINT8_C(48), UINT8_C(48), UINT8_C(48), UINT8_C(48), UINT8_C(48), UINT8_C(48), UINT8_C(48), UINT8_C(48), UINT8_C(48), UINT8_C(48), UINT8_C(48), UINT8_C(48), UINT8_C(48), UINT8_C(48), UINT8_C(48), UINT8_C(48), UINT8_C(48), UINT8_C(48), UINT8_C(48), UINT8_C(48), UINT8_C(48), UINT8_C(48), UINT8_C(48), UINT8_C(48), UINT8_C(48), UINT8_C(48), UINT8_C(48), UINT8_C(48), UINT8_C(48), UINT8_C(48), UINT8_C(48), UINT8_C(48), UINT8_C(48), UINT8_C(48), UINT8_C(48), UINT8_C(48), UINT8_C(48), UINT8_C(48), UINT8_C(48), UINT8_C(48), UINT8_C(48), UINT8_C(48), UINT8_C(48), UINT8_C(48), UINT8_C(48), UINT8_C(48), UINT8_C(48), UINT8_C(48), UINT8_C(48), UINT8_C(48), UINT8_C(48), UINT8_C(48), UINT8_C(48), UINT8_C(48), UINT8_C(48), UINT8_C(48), UINT8_C(48), UINT8_C(48), UINT8_C(48), UINT8_C(48), UINT8_C(48), UINT8_C(48), UINT8_C(48), UINT8_C(48), UINT8_C(48), UINT8_C(48), UINT8_C(48), UINT8_C(48), UINT8_C(48), UINT8_C(48), UINT8_C(48), UINT8_C(48), UINT8_C(48), UINT8_C(48), UINT8_C(48), UINT8_C(48), UINT8_C(48), UINT8_C(48), UINT8_C(48), UINT8_C(48), UINT8_C(48), UINT8_C(48), UINT8_C(48), UINT8_C(48), UINT8_C(48), UINT8_C(48), UINT8_C(48), UINT8_C(48), UINT8_C(48), UINT8_C(48), UINT8_C(48), UINT8_C(48), UINT8_C(48), UINT8_C(48), UINT8_C(48), UINT8_C(48), UINT8_C(48), UINT8_C(48), UINT8_C(48), UINT8_C(48), UINT8_C(48), UINT8_C(48), UINT8_C(48), UINT8_C(48), UINT8_C(48), UINT8_C(48), UINT8_C(48), UINT8_C(48), UINT8_C(48), UINT8_C(48), UINT8_C(48), UINT8_C(48), UINT8_C(48), UINT8_C(48), UINT8_C(48), UINT8_C(48), UINT8_C(48), UINT8_C(48), UINT8_C(48), UINT8_C(48), UINT8_C(48), UINT8_C(48), UINT8_C(48), UINT8_C(48), UINT8_C(48), UINT8_C(48), UINT8_C(48), UINT8_C(48), UINT8_C(48), UINT8_C(48), UINT8_C(48), UINT8_C(48), UINT8_C(48), UINT8_C(48), UINT8_C(48), UINT8_C(48), UINT8_C(48), UINT8_C(48), UINT8_C(48), UINT8_C(48), UINT8_C(48), UINT8_C(48), UINT8_C(48), UINT8_C(48), UINT8_C(48), UINT8_C(48), UINT8_C(48), UINT8_C(48), UINT8_C(48), UINT8_C(48), UINT8_C(48), UINT8_C(48), UINT8_C(48), UINT8_C(48), UINT8_C(48), UINT8_C(48), UINT8_C(48), UINT8_C(48), UINT8_C(48), UINT8_C(48), UINT8_C(48), UINT8_C(48), UINT8_C(48), UINT8_C(48), UINT8_C(48), UINT8_C(82), UINT8_C(48), UINT8_C(48), UINT8_C(48), UINT8_C(48), UINT8_C(48), UINT8_C(48), UINT8_C(48), UINT8_C(48), UINT8_C(48), UINT8_C(48), UINT8_C(48), UINT8_C(48), UINT8_C(48), UINT8_C(48), UINT8_C(48), UINT8_C(48), UINT8_C(48), UINT8_C(48), UINT8_C(48), UINT8_C(48), UINT8_C(48), UINT8_C(48), UINT8_C(48), UINT8_C(48), UINT8_C(48), UINT8_C(48), UINT8_C(48), UINT8_C(48), UINT8_C(48), UINT8_C(48), UINT8_C(48), UINT8_C(48), UINT8_C(48), UINT8_C(48), UINT8_C(48), UINT8_C(48), UINT8_C(48), UINT8_C(48), UINT8_C(48), UINT8_C(48), UINT8_C(48), UINT8_C(48), UINT8_C(48), UINT8_C(48), UINT8_C(48), UINT8_C(48), UINT8_C(48), UINT8_C(48), UINT8_C(48), UINT8_C(48), UINT8_C(48), UINT8_C(48), UINT8_C(48), UINT8_C(48), UINT8_C(48), UINT8_C(48), UINT8_C(48), UINT8_C(48), UINT8_C(48), UINT8_C(48), UINT8_C(48), UINT8_C(48), UINT8_C(48), UINT8_C(48), UINT8_C(48), UINT8_C(48), UINT8_C(48), UINT8_C(48), UINT8_C(48), UINT8_C(48), UINT8_C(48), UINT8_C(48), UINT8_C(48), UINT8_C(48), UINT8_C(48), UINT8_C(48), UINT8_C(48), UINT8_C(48), UINT8_C(48), UINT8_C(48), UINT8_C(48), UINT8_C(48), UINT8_C(48), UINT8_C(48), UINT8_C(48), UINT8_C(48), UINT8_C(48), UINT8_C(48), UINT8_C(48), UINT8_C(48), UINT8_C(48), UINT8_C(48), UINT8_C(48), UINT8_C(48), UINT8_C(48), UINT8_C(48), UINT8_C(48), UINT8_C(48), UINT8_C(48), UINT8_C(48), UINT8_C(48), UINT8_C(48), UINT8_C(48), UINT8_C(48), UINT8_C(48), UINT8_C(48), UINT8_C(48), UINT8_C(48), UINT8_C(48), UINT8_C(48), UINT8_C(48), UINT8_C(48), UINT8_C(48), UINT8_C(48), UINT8_C(48), UINT8_C(48), UINT8_C(48), UINT8_C(48), UINT8_C(48), UINT8_C(48), UINT8_C(48), UINT8_C(48), UINT8_C(48), UINT8_C(48), UINT8_C(48), UINT8_C(48), UINT8_C(90), UINT8_C(90), UINT8_C(90), UINT8_C(90), UINT8_C(90), UINT8_C(90), UINT8_C(83), UINT8_C(83), UINT8_C(83), UINT8_C(83), UINT8_C(83), UINT8_C(83), UINT8_C(83), UINT8_C(48), UINT8_C(48), UINT8_C(48), UINT8_C(48), UINT8_C(48), UINT8_C(48), UINT8_C(48), UINT8_C(48), UINT8_C(48), UINT8_C(48), UINT8_C(48), UINT8_C(48), UINT8_C(48), UINT8_C(48), UINT8_C(48), UINT8_C(48), UINT8_C(48), UINT8_C(48), UINT8_C(48), UINT8_C(48), UINT8_C(84), UINT8_C(48), UINT8_C(48), UINT8_C(48), UINT8_C(48), UINT8_C(48), UINT8_C(91), UINT8_C(91), UINT8_C(91), UINT8_C(91), UINT8_C(91), UINT8_C(91), UINT8_C(84), UINT8_C(84), UINT8_C(84), UINT8_C(84), UINT8_C(84), UINT8_C(84), UINT8_C(84), UINT8_C(48), UINT8_C(48), UINT8_C(48), UINT8_C(48), UINT8_C(48), UINT8_C(48), UINT8_C(48), UINT8_C(48), UINT8_C(48), UINT8_C(48), UINT8_C(48), UINT8_C(48), UINT8_C(48), UINT8_C(48), UINT8_C(48), UINT8_C(48), UINT8_C(48), UINT8_C(48), UINT8_C(48), UINT8_C(48), UINT8_C(85), UINT8_C(48), UINT8_C(48), UINT8_C(48), UINT8_C(48), UINT8_C(48), UINT8_C(92), UINT8_C(92), UINT8_C(92), UINT8_C(92), UINT8_C(92), UINT8_C(92), UINT8_C(85), UINT8_C(85), UINT8_C(85), UINT8_C(85), UINT8_C(85), UINT8_C(85), UINT8_C(85), UINT8_C(48), UINT8_C(48), UINT8_C(48), UINT8_C(48), UINT8_C(48), UINT8_C(48), UINT8_C(48), UINT8_C(48), UINT8_C(48), UINT8_C(48), UINT8_C(48), UINT8_C(48), UINT8_C(48), UINT8_C(48), UINT8_C(48), UINT8_C(48), UINT8_C(48), UINT8_C(48), UINT8_C(48), UINT8_C(48), UINT8_C(48), UINT8_C(48), UINT8_C(48), UINT8_C(48), UINT8_C(48), UINT8_C(48), UINT8_C(93), UINT8_C(93), UINT8_C(93), UINT8_C(93), UINT8_C(93), UINT8_C(93), UINT8_C(86), UINT8_C(86), UINT8_C(86), UINT8_C(86), UINT8_C(86), UINT8_C(86), UINT8_C(86), UINT8_C(48), UINT8_C(48), UINT8_C(48), UINT8_C(48), UINT8_C(48), UINT8_C(48), UINT8_C(48), UINT8_C(48), UINT8_C(48), UINT8_C(48), UINT8_C(48), UINT8_C(48), UINT8_C(48), UINT8_C(48), UINT8_C(48), UINT8_C(48), UINT8_C(48), UINT8_C(48), UINT8_C(48), UINT8_C(48), UINT8_C(48), UINT8_C(48), UINT8_C(48), UINT8_C(48), UINT8_C(48), UINT8_C(48), UINT8_C(94), UINT8_C(94), UINT8_C(94), UINT8_C(94), UINT8_C(94), UINT8_C(94), UINT8_C(87), UINT8_C(87), UINT8_C(87), UINT8_C(87), UINT8_C(87), UINT8_C(87), UINT8_C(87), UINT8_C(48), UINT8_C(48), UINT8_C(48), UINT8_C(48), UINT8_C(48), UINT8_C(48), UINT8_C(48), UINT8_C(48), UINT8_C(48), UINT8_C(48), UINT8_C(48), UINT8_C(48), UINT8_C(48), UINT8_C(48), UINT8_C(48), UINT8_C(48), UINT8_C(48), UINT8_C(48), UINT8_C(48), UINT8_C(48), UINT8_C(48), UINT8_C(48), UINT8_C(48), UINT8_C(48), UINT8_C(48), UINT8_C(48), UINT8_C(48), UINT8_C(48), UINT8_C(48), UINT8_C(48), UINT8_C(48), UINT8_C(48), UINT8_C(48), UINT8_C(48), UINT8_C(48), UINT8_C(48), UINT8_C(48), UINT8_C(48), UINT8_C(48), UINT8_C(48), UINT8_C(48), UINT8_C(48), UINT8_C(48), UINT8_C(48), UINT8_C(48), UINT8_C(48), UINT8_C(48), UINT8_C(48), UINT8_C(48), UINT8_C(48), UINT8_C(48), UINT8_C(48), UINT8_C(48), UINT8_C(48), UINT8_C(48), UINT8_C(48), UINT8_C(48), UINT8_C(48), UINT8_C(48), UINT8_C(48), UINT8_C(48), UINT8_C(48), UINT8_C(48), UINT8_C(48), UINT8_C(48), UINT8_C(48), UINT8_C(48), UINT8_C(48), UINT8_C(48), UINT8_C(48), UINT8_C(48), UINT8_C(48), UINT8_C(48), UINT8_C(48), UINT8_C(48), UINT8_C(48), UINT8_C(48), UINT8_C(48), UINT8_C(48), UINT8_C(48), UINT8_C(48), UINT8_C(48), UINT8_C(48), UINT8_C(48), UINT8_C(48), UINT8_C(48), UINT8_C(48), UINT8_C(48), UINT8_C(48), UINT8_C(48), UINT8_C(48), UINT8_C(48), UINT8_C(48), UINT8_C(48), UINT8_C(48), UINT8_C(48), UINT8_C(48), UINT8_C(48), UINT8_C(48), UINT8_C(48), UINT8_C(48), UINT8_C(48), UINT8_C(48), UINT8_C(48), UINT8_C(48), UINT8_C(48), UINT8_C(48), UINT8_C(48), UINT8_C(48), UINT8_C(48), UINT8_C(90), UINT8_C(90), UINT8_C(90), UINT8_C(90), UINT8_C(90), UINT8_C(83), UINT8_C(83), UINT8_C(48), UINT8_C(48), UINT8_C(48), UINT8_C(48), UINT8_C(48), UINT8_C(48), UINT8_C(48), UINT8_C(48), UINT8_C(48), UINT8_C(48), UINT8_C(48), UINT8_C(48), UINT8_C(48), UINT8_C(48), UINT8_C(48), UINT8_C(48), UINT8_C(48), UINT8_C(48), UINT8_C(48), UINT8_C(48), UINT8_C(84), UINT8_C(48), UINT8_C(48), UINT8_C(48), UINT8_C(48), UINT8_C(48), UINT8_C(48), UINT8_C(48), UINT8_C(48), UINT8_C(48), UINT8_C(48), UINT8_C(48), UINT8_C(91), UINT8_C(91), UINT8_C(91), UINT8_C(91), UINT8_C(91), UINT8_C(84), UINT8_C(84), UINT8_C(48), UINT8_C(48), UINT8_C(48), UINT8_C(48), UINT8_C(48), UINT8_C(48), UINT8_C(48), UINT8_C(48), UINT8_C(48), UINT8_C(48), UINT8_C(48), UINT8_C(48), UINT8_C(48), UINT8_C(48), UINT8_C(48), UINT8_C(48), UINT8_C(48), UINT8_C(48), UINT8_C(48), UINT8_C(48), UINT8_C(85), UINT8_C(48), UINT8_C(48), UINT8_C(48), UINT8_C(48), UINT8_C(48), UINT8_C(48), UINT8_C(48), UINT8_C(48), UINT8_C(48), UINT8_C(48), UINT8_C(48), UINT8_C(92), UINT8_C(92), UINT8_C(92), UINT8_C(92), UINT8_C(92), UINT8_C(85), UINT8_C(85), UINT8_C(48), UINT8_C(48), UINT8_C(48), UINT8_C(48), UINT8_C(48), UINT8_C(48), UINT8_C(48), UINT8_C(48), UINT8_C(48), UINT8_C(48), UINT8_C(48), UINT8_C(48), UINT8_C(48), UINT8_C(48), UINT8_C(48), UINT8_C(48), UINT8_C(48), UINT8_C(48), UINT8_C(48), UINT8_C(48), UINT8_C(48), UINT8_C(48), UINT8_C(48), UINT8_C(48), UINT8_C(48), UINT8_C(48), UINT8_C(48), UINT8_C(48), UINT8_C(48), UINT8_C(48), UINT8_C(48), UINT8_C(48), UINT8_C(93), UINT8_C(93), UINT8_C(93), UINT8_C(93), UINT8_C(93), UINT8_C(86), UINT8_C(86), UINT8_C(48), UINT8_C(48), UINT8_C(48), UINT8_C(48), UINT8_C(48), UINT8_C(48), UINT8_C(48), UINT8_C(48), UINT8_C(48), UINT8_C(48), UINT8_C(48), UINT8_C(48), UINT8_C(48), UINT8_C(48), UINT8_C(48), UINT8_C(48), UINT8_C(48), UINT8_C(48), UINT8_C(48), UINT8_C(48), UINT8_C(48), UINT8_C(48), UINT8_C(48), UINT8_C(48), UINT8_C(48), UINT8_C(48), UINT8_C(48), UINT8_C(48), UINT8_C(48), UINT8_C(48), UINT8_C(48), UINT8_C(48), UINT8_C(94), UINT8_C(94), UINT8_C(94), UINT8_C(94), UINT8_C(94), UINT8_C(87), UINT8_C(87), UINT8_C(48), UINT8_C(48), UINT8_C(48) } };
-static inline struct derive__Mark derive__step(rt_slice l1, struct derive__Mark l2, uint8_t l3)
+static const struct rt_array_uint8_1833 derive__step__l14 = { { UINT8_C(48), UINT8_C(48), UINT8_C(48), UINT8_C(48), UINT8_C(48), UINT8_C(48), UINT8_C(48), UINT8_C(48), UINT8_C(48), UINT8_C(48), UINT8_C(48), UINT8_C(48), UINT8_C(48), UINT8_C(48), UINT8_C(48), UINT8_C(48), UINT8_C(48), UINT8_C(48), UINT8_C(48), UINT8_C(48), UINT8_C(48), UINT8_C(48), UINT8_C(48), UINT8_C(48), UINT8_C(48), UINT8_C(48), UINT8_C(48), UINT8_C(48), UINT8_C(48), UINT8_C(48), UINT8_C(48), UINT8_C(48), UINT8_C(48), UINT8_C(48), UINT8_C(48), UINT8_C(48), UINT8_C(48), UINT8_C(48), UINT8_C(48), UINT8_C(48), UINT8_C(51), UINT8_C(48), UINT8_C(48), UINT8_C(48), UINT8_C(48), UINT8_C(48), UINT8_C(48), UINT8_C(48), UINT8_C(48), UINT8_C(48), UINT8_C(48), UINT8_C(48), UINT8_C(48), UINT8_C(48), UINT8_C(48), UINT8_C(48), UINT8_C(48), UINT8_C(48), UINT8_C(48), UINT8_C(48), UINT8_C(48), UINT8_C(48), UINT8_C(48), UINT8_C(48), UINT8_C(48), UINT8_C(48), UINT8_C(48), UINT8_C(48), UINT8_C(48), UINT8_C(48), UINT8_C(48), UINT8_C(48), UINT8_C(48), UINT8_C(48), UINT8_C(48), UINT8_C(48), UINT8_C(48), UINT8_C(48), UINT8_C(48), UINT8_C(51), UINT8_C(48), UINT8_C(48), UINT8_C(48), UINT8_C(48), UINT8_C(80), UINT8_C(48), UINT8_C(48), UINT8_C(48), UINT8_C(48), UINT8_C(48), UINT8_C(48), UINT8_C(48), UINT8_C(48), UINT8_C(48), UINT8_C(48), UINT8_C(48), UINT8_C(48), UINT8_C(48), UINT8_C(48), UINT8_C(48), UINT8_C(48), UINT8_C(48), UINT8_C(48), UINT8_C(48), UINT8_C(48), UINT8_C(48), UINT8_C(48), UINT8_C(48), UINT8_C(48), UINT8_C(48), UINT8_C(48), UINT8_C(48), UINT8_C(48), UINT8_C(48), UINT8_C(78), UINT8_C(48), UINT8_C(48), UINT8_C(48), UINT8_C(48), UINT8_C(48), UINT8_C(48), UINT8_C(48), UINT8_C(48), UINT8_C(48), UINT8_C(48), UINT8_C(48), UINT8_C(48), UINT8_C(48), UINT8_C(48), UINT8_C(48), UINT8_C(48), UINT8_C(48), UINT8_C(48), UINT8_C(48), UINT8_C(48), UINT8_C(48), UINT8_C(48), UINT8_C(48), UINT8_C(48), UINT8_C(48), UINT8_C(48), UINT8_C(48), UINT8_C(48), UINT8_C(48), UINT8_C(48), UINT8_C(48), UINT8_C(48), UINT8_C(48), UINT8_C(48), UINT8_C(48), UINT8_C(48), UINT8_C(48), UINT8_C(48), UINT8_C(52), UINT8_C(48), UINT8_C(48), UINT8_C(48), UINT8_C(48), UINT8_C(48), UINT8_C(48), UINT8_C(48), UINT8_C(48), UINT8_C(48), UINT8_C(48), UINT8_C(48), UINT8_C(48), UINT8_C(48), UINT8_C(48), UINT8_C(48), UINT8_C(53), UINT8_C(48), UINT8_C(48), UINT8_C(48), UINT8_C(48), UINT8_C(48), UINT8_C(48), UINT8_C(48), UINT8_C(48), UINT8_C(48), UINT8_C(48), UINT8_C(48), UINT8_C(48), UINT8_C(48), UINT8_C(48), UINT8_C(48), UINT8_C(48), UINT8_C(48), UINT8_C(48), UINT8_C(48), UINT8_C(48), UINT8_C(48), UINT8_C(48), UINT8_C(48), UINT8_C(48), UINT8_C(48), UINT8_C(48), UINT8_C(48), UINT8_C(48), UINT8_C(48), UINT8_C(48), UINT8_C(48), UINT8_C(48), UINT8_C(48), UINT8_C(48), UINT8_C(48), UINT8_C(48), UINT8_C(48), UINT8_C(48), UINT8_C(48), UINT8_C(58), UINT8_C(48), UINT8_C(48), UINT8_C(48), UINT8_C(48), UINT8_C(48), UINT8_C(48), UINT8_C(48), UINT8_C(48), UINT8_C(48), UINT8_C(48), UINT8_C(48), UINT8_C(48), UINT8_C(48), UINT8_C(48), UINT8_C(48), UINT8_C(48), UINT8_C(48), UINT8_C(48), UINT8_C(48), UINT8_C(48), UINT8_C(48), UINT8_C(55), UINT8_C(48), UINT8_C(48), UINT8_C(48), UINT8_C(48), UINT8_C(48), UINT8_C(48), UINT8_C(48), UINT8_C(48), UINT8_C(48), UINT8_C(48), UINT8_C(48), UINT8_C(48), UINT8_C(48), UINT8_C(48), UINT8_C(48), UINT8_C(48), UINT8_C(48), UINT8_C(48), UINT8_C(48), UINT8_C(48), UINT8_C(48), UINT8_C(48), UINT8_C(48), UINT8_C(48), UINT8_C(48), UINT8_C(48), UINT8_C(48), UINT8_C(48), UINT8_C(48), UINT8_C(48), UINT8_C(48), UINT8_C(48), UINT8_C(48), UINT8_C(48), UINT8_C(48), UINT8_C(48), UINT8_C(48), UINT8_C(48), UINT8_C(55), UINT8_C(48), UINT8_C(48), UINT8_C(48), UINT8_C(48), UINT8_C(48), UINT8_C(48), UINT8_C(48), UINT8_C(48), UINT8_C(48), UINT8_C(48), UINT8_C(48), UINT8_C(48), UINT8_C(48), UINT8_C(48), UINT8_C(48), UINT8_C(48), UINT8_C(48), UINT8_C(48), UINT8_C(48), UINT8_C(48), UINT8_C(56), UINT8_C(48), UINT8_C(48), UINT8_C(48), UINT8_C(48), UINT8_C(48), UINT8_C(48), UINT8_C(48), UINT8_C(48), UINT8_C(48), UINT8_C(48), UINT8_C(48), UINT8_C(48), UINT8_C(48), UINT8_C(48), UINT8_C(48), UINT8_C(48), UINT8_C(48), UINT8_C(48), UINT8_C(48), UINT8_C(48), UINT8_C(48), UINT8_C(48), UINT8_C(48), UINT8_C(48), UINT8_C(48), UINT8_C(48), UINT8_C(48), UINT8_C(57), UINT8_C(57), UINT8_C(57), UINT8_C(48), UINT8_C(48), UINT8_C(48), UINT8_C(48), UINT8_C(48), UINT8_C(48), UINT8_C(48), UINT8_C(48), UINT8_C(48), UINT8_C(48), UINT8_C(48), UINT8_C(48), UINT8_C(48), UINT8_C(48), UINT8_C(48), UINT8_C(48), UINT8_C(48), UINT8_C(48), UINT8_C(48), UINT8_C(48), UINT8_C(48), UINT8_C(48), UINT8_C(48), UINT8_C(48), UINT8_C(48), UINT8_C(48), UINT8_C(57), UINT8_C(48), UINT8_C(48), UINT8_C(48), UINT8_C(48), UINT8_C(48), UINT8_C(48), UINT8_C(48), UINT8_C(48), UINT8_C(48), UINT8_C(48), UINT8_C(48), UINT8_C(48), UINT8_C(48), UINT8_C(48), UINT8_C(48), UINT8_C(48), UINT8_C(58), UINT8_C(48), UINT8_C(48), UINT8_C(54), UINT8_C(48), UINT8_C(48), UINT8_C(48), UINT8_C(48), UINT8_C(48), UINT8_C(48), UINT8_C(48), UINT8_C(48), UINT8_C(48), UINT8_C(48), UINT8_C(48), UINT8_C(48), UINT8_C(48), UINT8_C(48), UINT8_C(48), UINT8_C(48), UINT8_C(48), UINT8_C(48), UINT8_C(48), UINT8_C(48), UINT8_C(48), UINT8_C(48), UINT8_C(48), UINT8_C(48), UINT8_C(48), UINT8_C(48), UINT8_C(48), UINT8_C(48), UINT8_C(48), UINT8_C(48), UINT8_C(48), UINT8_C(48), UINT8_C(48), UINT8_C(48), UINT8_C(48), UINT8_C(48), UINT8_C(59), UINT8_C(48), UINT8_C(48), UINT8_C(48), UINT8_C(48), UINT8_C(48), UINT8_C(48), UINT8_C(48), UINT8_C(48), UINT8_C(48), UINT8_C(48), UINT8_C(48), UINT8_C(48), UINT8_C(48), UINT8_C(48), UINT8_C(48), UINT8_C(48), UINT8_C(48), UINT8_C(48), UINT8_C(48), UINT8_C(48), UINT8_C(48), UINT8_C(48), UINT8_C(48), UINT8_C(48), UINT8_C(48), UINT8_C(48), UINT8_C(48), UINT8_C(48), UINT8_C(48), UINT8_C(48), UINT8_C(48), UINT8_C(48), UINT8_C(48), UINT8_C(48), UINT8_C(48), UINT8_C(48), UINT8_C(48), UINT8_C(48), UINT8_C(48), UINT8_C(50), UINT8_C(48), UINT8_C(48), UINT8_C(48), UINT8_C(48), UINT8_C(48), UINT8_C(48), UINT8_C(48), UINT8_C(48), UINT8_C(48), UINT8_C(48), UINT8_C(48), UINT8_C(48), UINT8_C(48), UINT8_C(48), UINT8_C(48), UINT8_C(48), UINT8_C(48), UINT8_C(48), UINT8_C(48), UINT8_C(60), UINT8_C(48), UINT8_C(48), UINT8_C(48), UINT8_C(48), UINT8_C(48), UINT8_C(48), UINT8_C(48), UINT8_C(48), UINT8_C(48), UINT8_C(48), UINT8_C(48), UINT8_C(48), UINT8_C(48), UINT8_C(48), UINT8_C(48), UINT8_C(48), UINT8_C(48), UINT8_C(61), UINT8_C(48), UINT8_C(48), UINT8_C(48), UINT8_C(48), UINT8_C(48), UINT8_C(48), UINT8_C(48), UINT8_C(48), UINT8_C(48), UINT8_C(48), UINT8_C(48), UINT8_C(48), UINT8_C(48), UINT8_C(48), UINT8_C(48), UINT8_C(48), UINT8_C(48), UINT8_C(48), UINT8_C(48), UINT8_C(48), UINT8_C(48), UINT8_C(48), UINT8_C(48), UINT8_C(48), UINT8_C(48), UINT8_C(70), UINT8_C(48), UINT8_C(48), UINT8_C(48), UINT8_C(48), UINT8_C(65), UINT8_C(65), UINT8_C(65), UINT8_C(48), UINT8_C(48), UINT8_C(48), UINT8_C(48), UINT8_C(48), UINT8_C(48), UINT8_C(111), UINT8_C(48), UINT8_C(48), UINT8_C(48), UINT8_C(48), UINT8_C(48), UINT8_C(48), UINT8_C(48), UINT8_C(48), UINT8_C(48), UINT8_C(48), UINT8_C(48), UINT8_C(48), UINT8_C(48), UINT8_C(48), UINT8_C(48), UINT8_C(48), UINT8_C(48), UINT8_C(48), UINT8_C(48), UINT8_C(62), UINT8_C(48), UINT8_C(48), UINT8_C(48), UINT8_C(48), UINT8_C(48), UINT8_C(48), UINT8_C(48), UINT8_C(48), UINT8_C(48), UINT8_C(48), UINT8_C(48), UINT8_C(48), UINT8_C(48), UINT8_C(48), UINT8_C(48), UINT8_C(67), UINT8_C(48), UINT8_C(48), UINT8_C(48), UINT8_C(48), UINT8_C(48), UINT8_C(48), UINT8_C(70), UINT8_C(63), UINT8_C(48), UINT8_C(48), UINT8_C(48), UINT8_C(48), UINT8_C(48), UINT8_C(48), UINT8_C(48), UINT8_C(48), UINT8_C(48), UINT8_C(48), UINT8_C(48), UINT8_C(48), UINT8_C(48), UINT8_C(48), UINT8_C(66), UINT8_C(48), UINT8_C(48), UINT8_C(48), UINT8_C(48), UINT8_C(48), UINT8_C(48), UINT8_C(48), UINT8_C(48), UINT8_C(48), UINT8_C(48), UINT8_C(48), UINT8_C(48), UINT8_C(48), UINT8_C(48), UINT8_C(48), UINT8_C(48), UINT8_C(48), UINT8_C(48), UINT8_C(48), UINT8_C(48), UINT8_C(48), UINT8_C(48), UINT8_C(48), UINT8_C(48), UINT8_C(48), UINT8_C(48), UINT8_C(48), UINT8_C(48), UINT8_C(48), UINT8_C(48), UINT8_C(48), UINT8_C(48), UINT8_C(48), UINT8_C(48), UINT8_C(48), UINT8_C(48), UINT8_C(48), UINT8_C(48), UINT8_C(64), UINT8_C(48), UINT8_C(48), UINT8_C(48), UINT8_C(48), UINT8_C(48), UINT8_C(48), UINT8_C(48), UINT8_C(48), UINT8_C(48), UINT8_C(48), UINT8_C(48), UINT8_C(48), UINT8_C(48), UINT8_C(48), UINT8_C(48), UINT8_C(48), UINT8_C(48), UINT8_C(48), UINT8_C(48), UINT8_C(48), UINT8_C(48), UINT8_C(48), UINT8_C(70), UINT8_C(63), UINT8_C(48), UINT8_C(48), UINT8_C(48), UINT8_C(48), UINT8_C(48), UINT8_C(48), UINT8_C(48), UINT8_C(48), UINT8_C(48), UINT8_C(48), UINT8_C(48), UINT8_C(48), UINT8_C(48), UINT8_C(48), UINT8_C(48), UINT8_C(48), UINT8_C(48), UINT8_C(48), UINT8_C(48), UINT8_C(48), UINT8_C(48), UINT8_C(48), UINT8_C(48), UINT8_C(48), UINT8_C(48), UINT8_C(48), UINT8_C(48), UINT8_C(48), UINT8_C(48), UINT8_C(48), UINT8_C(48), UINT8_C(48), UINT8_C(48), UINT8_C(48), UINT8_C(48), UINT8_C(48), UINT8_C(48), UINT8_C(48), UINT8_C(48), UINT8_C(48), UINT8_C(48), UINT8_C(48), UINT8_C(48), UINT8_C(48), UINT8_C(48), UINT8_C(48), UINT8_C(48), UINT8_C(48), UINT8_C(48), UINT8_C(48), UINT8_C(48), UINT8_C(48), UINT8_C(48), UINT8_C(66), UINT8_C(48), UINT8_C(48), UINT8_C(48), UINT8_C(48), UINT8_C(48), UINT8_C(48), UINT8_C(48), UINT8_C(48), UINT8_C(48), UINT8_C(48), UINT8_C(48), UINT8_C(48), UINT8_C(48), UINT8_C(48), UINT8_C(48), UINT8_C(48), UINT8_C(48), UINT8_C(48), UINT8_C(48), UINT8_C(48), UINT8_C(48), UINT8_C(48), UINT8_C(70), UINT8_C(48), UINT8_C(48), UINT8_C(48), UINT8_C(48), UINT8_C(48), UINT8_C(48), UINT8_C(48), UINT8_C(48), UINT8_C(48), UINT8_C(48), UINT8_C(48), UINT8_C(48), UINT8_C(48), UINT8_C(48), UINT8_C(48), UINT8_C(48), UINT8_C(48), UINT8_C(48), UINT8_C(48), UINT8_C(48), UINT8_C(48), UINT8_C(48), UINT8_C(76), UINT8_C(71), UINT8_C(48), UINT8_C(48), UINT8_C(48), UINT8_C(48), UINT8_C(48), UINT8_C(71), UINT8_C(71), UINT8_C(70), UINT8_C(111), UINT8_C(48), UINT8_C(48), UINT8_C(48), UINT8_C(48), UINT8_C(48), UINT8_C(48), UINT8_C(48), UINT8_C(70), UINT8_C(48), UINT8_C(48), UINT8_C(48), UINT8_C(48), UINT8_C(48), UINT8_C(48), UINT8_C(48), UINT8_C(48), UINT8_C(48), UINT8_C(48), UINT8_C(48), UINT8_C(48), UINT8_C(48), UINT8_C(72), UINT8_C(71), UINT8_C(71), UINT8_C(48), UINT8_C(48), UINT8_C(48), UINT8_C(48), UINT8_C(48), UINT8_C(48), UINT8_C(48), UINT8_C(48), UINT8_C(48), UINT8_C(48), UINT8_C(48), UINT8_C(48), UINT8_C(48), UINT8_C(48), UINT8_C(48), UINT8_C(48), UINT8_C(48), UINT8_C(48), UINT8_C(48), UINT8_C(61), UINT8_C(48), UINT8_C(48), UINT8_C(48), UINT8_C(48), UINT8_C(48), UINT8_C(48), UINT8_C(48), UINT8_C(48), UINT8_C(48), UINT8_C(48), UINT8_C(48), UINT8_C(48), UINT8_C(48), UINT8_C(48), UINT8_C(48), UINT8_C(48), UINT8_C(48), UINT8_C(48), UINT8_C(48), UINT8_C(48), UINT8_C(48), UINT8_C(48), UINT8_C(48), UINT8_C(48), UINT8_C(48), UINT8_C(48), UINT8_C(48), UINT8_C(48), UINT8_C(48), UINT8_C(48), UINT8_C(48), UINT8_C(48), UINT8_C(48), UINT8_C(48), UINT8_C(61), UINT8_C(48), UINT8_C(48), UINT8_C(48), UINT8_C(48), UINT8_C(48), UINT8_C(48), UINT8_C(48), UINT8_C(48), UINT8_C(48), UINT8_C(48), UINT8_C(48), UINT8_C(48), UINT8_C(48), UINT8_C(48), UINT8_C(48), UINT8_C(48), UINT8_C(48), UINT8_C(48), UINT8_C(48), UINT8_C(48), UINT8_C(48), UINT8_C(48), UINT8_C(48), UINT8_C(48), UINT8_C(48), UINT8_C(48), UINT8_C(48), UINT8_C(76), UINT8_C(71), UINT8_C(48), UINT8_C(48), UINT8_C(48), UINT8_C(48), UINT8_C(48), UINT8_C(71), UINT8_C(71), UINT8_C(70), UINT8_C(48), UINT8_C(48), UINT8_C(48), UINT8_C(48), UINT8_C(48), UINT8_C(48), UINT8_C(48), UINT8_C(48), UINT8_C(70), UINT8_C(48), UINT8_C(48), UINT8_C(48), UINT8_C(48), UINT8_C(48), UINT8_C(48), UINT8_C(48), UINT8_C(48), UINT8_C(48), UINT8_C(48), UINT8_C(48), UINT8_C(48), UINT8_C(48), UINT8_C(72), UINT8_C(71), UINT8_C(71), UINT8_C(111), UINT8_C(111), UINT8_C(111), UINT8_C(111), UINT8_C(111), UINT8_C(111), UINT8_C(111), UINT8_C(111), UINT8_C(111), UINT8_C(111), UINT8_C(111), UINT8_C(111), UINT8_C(111), UINT8_C(111), UINT8_C(111), UINT8_C(111), UINT8_C(111), UINT8_C(111), UINT8_C(111), UINT8_C(111), UINT8_C(111), UINT8_C(111), UINT8_C(111), UINT8_C(111), UINT8_C(111), UINT8_C(111), UINT8_C(111), UINT8_C(111), UINT8_C(111), UINT8_C(111), UINT8_C(111), UINT8_C(111), UINT8_C(111), UINT8_C(111), UINT8_C(111), UINT8_C(111), UINT8_C(111), UINT8_C(111), UINT8_C(111), UINT8_C(111), UINT8_C(111), UINT8_C(111), UINT8_C(111), UINT8_C(111), UINT8_C(111), UINT8_C(111), UINT8_C(111), UINT8_C(111), UINT8_C(111), UINT8_C(111), UINT8_C(111), UINT8_C(111), UINT8_C(75), UINT8_C(111), UINT8_C(111), UINT8_C(111), UINT8_C(111), UINT8_C(111), UINT8_C(111), UINT8_C(111), UINT8_C(73), UINT8_C(111), UINT8_C(111), UINT8_C(111), UINT8_C(111), UINT8_C(111), UINT8_C(111), UINT8_C(111), UINT8_C(111), UINT8_C(111), UINT8_C(111), UINT8_C(111), UINT8_C(111), UINT8_C(111), UINT8_C(111), UINT8_C(111), UINT8_C(111), UINT8_C(111), UINT8_C(48), UINT8_C(48), UINT8_C(48), UINT8_C(48), UINT8_C(48), UINT8_C(48), UINT8_C(48), UINT8_C(48), UINT8_C(48), UINT8_C(48), UINT8_C(48), UINT8_C(48), UINT8_C(48), UINT8_C(48), UINT8_C(48), UINT8_C(48), UINT8_C(48), UINT8_C(48), UINT8_C(48), UINT8_C(48), UINT8_C(48), UINT8_C(48), UINT8_C(48), UINT8_C(48), UINT8_C(48), UINT8_C(48), UINT8_C(48), UINT8_C(48), UINT8_C(48), UINT8_C(48), UINT8_C(48), UINT8_C(48), UINT8_C(48), UINT8_C(48), UINT8_C(48), UINT8_C(48), UINT8_C(74), UINT8_C(48), UINT8_C(48), UINT8_C(111), UINT8_C(111), UINT8_C(111), UINT8_C(111), UINT8_C(111), UINT8_C(111), UINT8_C(111), UINT8_C(111), UINT8_C(111), UINT8_C(111), UINT8_C(111), UINT8_C(111), UINT8_C(111), UINT8_C(111), UINT8_C(111), UINT8_C(111), UINT8_C(111), UINT8_C(111), UINT8_C(111), UINT8_C(111), UINT8_C(111), UINT8_C(73), UINT8_C(111), UINT8_C(111), UINT8_C(111), UINT8_C(111), UINT8_C(111), UINT8_C(111), UINT8_C(111), UINT8_C(111), UINT8_C(111), UINT8_C(111), UINT8_C(111), UINT8_C(111), UINT8_C(111), UINT8_C(111), UINT8_C(111), UINT8_C(111), UINT8_C(111), UINT8_C(48), UINT8_C(48), UINT8_C(48), UINT8_C(48), UINT8_C(76), UINT8_C(71), UINT8_C(48), UINT8_C(48), UINT8_C(48), UINT8_C(48), UINT8_C(48), UINT8_C(71), UINT8_C(71), UINT8_C(70), UINT8_C(111), UINT8_C(48), UINT8_C(48), UINT8_C(48), UINT8_C(48), UINT8_C(48), UINT8_C(48), UINT8_C(48), UINT8_C(70), UINT8_C(48), UINT8_C(48), UINT8_C(48), UINT8_C(48), UINT8_C(48), UINT8_C(48), UINT8_C(48), UINT8_C(48), UINT8_C(48), UINT8_C(48), UINT8_C(48), UINT8_C(48), UINT8_C(48), UINT8_C(72), UINT8_C(71), UINT8_C(71), UINT8_C(48), UINT8_C(48), UINT8_C(48), UINT8_C(48), UINT8_C(48), UINT8_C(48), UINT8_C(48), UINT8_C(71), UINT8_C(71), UINT8_C(71), UINT8_C(48), UINT8_C(48), UINT8_C(48), UINT8_C(48), UINT8_C(48), UINT8_C(48), UINT8_C(48), UINT8_C(48), UINT8_C(48), UINT8_C(48), UINT8_C(48), UINT8_C(48), UINT8_C(48), UINT8_C(48), UINT8_C(48), UINT8_C(48), UINT8_C(48), UINT8_C(48), UINT8_C(48), UINT8_C(48), UINT8_C(48), UINT8_C(48), UINT8_C(48), UINT8_C(48), UINT8_C(48), UINT8_C(48), UINT8_C(71), UINT8_C(48), UINT8_C(48), UINT8_C(48), UINT8_C(48), UINT8_C(48), UINT8_C(48), UINT8_C(48), UINT8_C(48), UINT8_C(80), UINT8_C(48), UINT8_C(48), UINT8_C(48), UINT8_C(48), UINT8_C(48), UINT8_C(48), UINT8_C(48), UINT8_C(48), UINT8_C(48), UINT8_C(48), UINT8_C(48), UINT8_C(48), UINT8_C(48), UINT8_C(48), UINT8_C(48), UINT8_C(48), UINT8_C(48), UINT8_C(48), UINT8_C(48), UINT8_C(48), UINT8_C(48), UINT8_C(48), UINT8_C(48), UINT8_C(48), UINT8_C(48), UINT8_C(48), UINT8_C(48), UINT8_C(48), UINT8_C(48), UINT8_C(78), UINT8_C(48), UINT8_C(48), UINT8_C(48), UINT8_C(48), UINT8_C(48), UINT8_C(48), UINT8_C(48), UINT8_C(48), UINT8_C(48), UINT8_C(48), UINT8_C(48), UINT8_C(48), UINT8_C(48), UINT8_C(48), UINT8_C(48), UINT8_C(48), UINT8_C(111), UINT8_C(48), UINT8_C(48), UINT8_C(48), UINT8_C(48), UINT8_C(48), UINT8_C(48), UINT8_C(79), UINT8_C(48), UINT8_C(48), UINT8_C(48), UINT8_C(48), UINT8_C(48), UINT8_C(77), UINT8_C(48), UINT8_C(48), UINT8_C(48), UINT8_C(48), UINT8_C(48), UINT8_C(48), UINT8_C(48), UINT8_C(48), UINT8_C(48), UINT8_C(48), UINT8_C(48), UINT8_C(48), UINT8_C(48), UINT8_C(48), UINT8_C(48), UINT8_C(48), UINT8_C(48), UINT8_C(48), UINT8_C(48), UINT8_C(48), UINT8_C(48), UINT8_C(48), UINT8_C(48), UINT8_C(48), UINT8_C(48), UINT8_C(48), UINT8_C(48), UINT8_C(48), UINT8_C(48), UINT8_C(48), UINT8_C(48), UINT8_C(48), UINT8_C(48), UINT8_C(48), UINT8_C(48), UINT8_C(48), UINT8_C(48), UINT8_C(48), UINT8_C(48), UINT8_C(48), UINT8_C(48), UINT8_C(48), UINT8_C(48), UINT8_C(48), UINT8_C(48), UINT8_C(48), UINT8_C(48), UINT8_C(81), UINT8_C(48), UINT8_C(48), UINT8_C(48), UINT8_C(48), UINT8_C(48), UINT8_C(48), UINT8_C(48), UINT8_C(48), UINT8_C(48), UINT8_C(48), UINT8_C(48), UINT8_C(48), UINT8_C(48), UINT8_C(48), UINT8_C(48), UINT8_C(77), UINT8_C(48), UINT8_C(48), UINT8_C(48), UINT8_C(48), UINT8_C(48), UINT8_C(48), UINT8_C(48), UINT8_C(48), UINT8_C(48), UINT8_C(48), UINT8_C(48), UINT8_C(48), UINT8_C(48), UINT8_C(48), UINT8_C(48), UINT8_C(48), UINT8_C(48), UINT8_C(48), UINT8_C(48), UINT8_C(48), UINT8_C(48), UINT8_C(48), UINT8_C(48), UINT8_C(48), UINT8_C(48), UINT8_C(48), UINT8_C(48), UINT8_C(48), UINT8_C(48), UINT8_C(48), UINT8_C(48), UINT8_C(48), UINT8_C(48), UINT8_C(48), UINT8_C(48), UINT8_C(48), UINT8_C(48), UINT8_C(48), UINT8_C(48), UINT8_C(111), UINT8_C(48), UINT8_C(48), UINT8_C(48), UINT8_C(48), UINT8_C(48), UINT8_C(48), UINT8_C(48), UINT8_C(48), UINT8_C(48), UINT8_C(48), UINT8_C(48), UINT8_C(48), UINT8_C(77), UINT8_C(48), UINT8_C(48), UINT8_C(48), UINT8_C(48), UINT8_C(48), UINT8_C(48), UINT8_C(48), UINT8_C(48), UINT8_C(48), UINT8_C(48), UINT8_C(48), UINT8_C(48), UINT8_C(48), UINT8_C(48), UINT8_C(48), UINT8_C(48), UINT8_C(48), UINT8_C(48), UINT8_C(48), UINT8_C(48), UINT8_C(48), UINT8_C(48), UINT8_C(48), UINT8_C(48), UINT8_C(48), UINT8_C(81), UINT8_C(48), UINT8_C(48), UINT8_C(48), UINT8_C(48), UINT8_C(48), UINT8_C(48), UINT8_C(48), UINT8_C(48), UINT8_C(48), UINT8_C(48), UINT8_C(48), UINT8_C(48), UINT8_C(48), UINT8_C(48), UINT8_C(48), UINT8_C(48), UINT8_C(48), UINT8_C(48), UINT8_C(48), UINT8_C(48), UINT8_C(48), UINT8_C(48), UINT8_C(48), UINT8_C(48), UINT8_C(48), UINT8_C(48), UINT8_C(48), UINT8_C(48), UINT8_C(48), UINT8_C(48), UINT8_C(48), UINT8_C(48), UINT8_C(48), UINT8_C(48), UINT8_C(48), UINT8_C(48), UINT8_C(48), UINT8_C(48), UINT8_C(71), UINT8_C(48), UINT8_C(48), UINT8_C(48), UINT8_C(48), UINT8_C(48), UINT8_C(48), UINT8_C(48), UINT8_C(48), UINT8_C(70), UINT8_C(70), UINT8_C(70), UINT8_C(70), UINT8_C(70), UINT8_C(70), UINT8_C(70), UINT8_C(70), UINT8_C(70), UINT8_C(70), UINT8_C(70), UINT8_C(70), UINT8_C(70), UINT8_C(48), UINT8_C(48), UINT8_C(48), UINT8_C(48), UINT8_C(48), UINT8_C(48), UINT8_C(48), UINT8_C(48), UINT8_C(48), UINT8_C(48), UINT8_C(48), UINT8_C(48), UINT8_C(48), UINT8_C(48), UINT8_C(48), UINT8_C(48), UINT8_C(48), UINT8_C(71), UINT8_C(48), UINT8_C(48), UINT8_C(70), UINT8_C(48), UINT8_C(48), UINT8_C(48), UINT8_C(48), UINT8_C(48), UINT8_C(70), UINT8_C(70), UINT8_C(70), UINT8_C(70), UINT8_C(70), UINT8_C(70), UINT8_C(70), UINT8_C(70), UINT8_C(70), UINT8_C(70), UINT8_C(70), UINT8_C(70), UINT8_C(70), UINT8_C(48), UINT8_C(48), UINT8_C(48), UINT8_C(48), UINT8_C(48), UINT8_C(48), UINT8_C(48), UINT8_C(48), UINT8_C(48), UINT8_C(48), UINT8_C(48), UINT8_C(48), UINT8_C(48), UINT8_C(48), UINT8_C(48), UINT8_C(48), UINT8_C(48), UINT8_C(68), UINT8_C(48), UINT8_C(48), UINT8_C(70), UINT8_C(48), UINT8_C(48), UINT8_C(48), UINT8_C(48), UINT8_C(48), UINT8_C(70), UINT8_C(70), UINT8_C(70), UINT8_C(70), UINT8_C(70), UINT8_C(70), UINT8_C(70), UINT8_C(70), UINT8_C(70), UINT8_C(70), UINT8_C(70), UINT8_C(70), UINT8_C(70), UINT8_C(48), UINT8_C(48), UINT8_C(48), UINT8_C(48), UINT8_C(48), UINT8_C(48), UINT8_C(69), UINT8_C(48), UINT8_C(48), UINT8_C(48), UINT8_C(48), UINT8_C(48), UINT8_C(48), UINT8_C(48), UINT8_C(48), UINT8_C(48), UINT8_C(48), UINT8_C(48), UINT8_C(48), UINT8_C(48), UINT8_C(48), UINT8_C(48), UINT8_C(48), UINT8_C(48), UINT8_C(48), UINT8_C(48), UINT8_C(70), UINT8_C(70), UINT8_C(70), UINT8_C(70), UINT8_C(70), UINT8_C(70), UINT8_C(70), UINT8_C(70), UINT8_C(70), UINT8_C(70), UINT8_C(70), UINT8_C(70), UINT8_C(70), UINT8_C(48), UINT8_C(48), UINT8_C(48), UINT8_C(48), UINT8_C(48), UINT8_C(48), UINT8_C(48), UINT8_C(48), UINT8_C(48), UINT8_C(48), UINT8_C(48), UINT8_C(48), UINT8_C(48), UINT8_C(48), UINT8_C(48), UINT8_C(48), UINT8_C(48), UINT8_C(48), UINT8_C(48), UINT8_C(48), UINT8_C(48), UINT8_C(48), UINT8_C(61), UINT8_C(48), UINT8_C(48), UINT8_C(48), UINT8_C(70), UINT8_C(70), UINT8_C(70), UINT8_C(70), UINT8_C(70), UINT8_C(70), UINT8_C(70), UINT8_C(70), UINT8_C(70), UINT8_C(70), UINT8_C(70), UINT8_C(70), UINT8_C(70), UINT8_C(48), UINT8_C(48), UINT8_C(48), UINT8_C(48), UINT8_C(48), UINT8_C(48), UINT8_C(48), UINT8_C(48), UINT8_C(48), UINT8_C(48), UINT8_C(48), UINT8_C(48), UINT8_C(48), UINT8_C(48), UINT8_C(48), UINT8_C(48), UINT8_C(48), UINT8_C(48), UINT8_C(48), UINT8_C(59), UINT8_C(48), UINT8_C(48), UINT8_C(48), UINT8_C(48), UINT8_C(48), UINT8_C(48), UINT8_C(48), UINT8_C(48), UINT8_C(48), UINT8_C(48), UINT8_C(48), UINT8_C(48), UINT8_C(48), UINT8_C(48), UINT8_C(48), UINT8_C(48), UINT8_C(48), UINT8_C(48), UINT8_C(48), UINT8_C(48), UINT8_C(48), UINT8_C(48), UINT8_C(48), UINT8_C(48), UINT8_C(48), UINT8_C(48), UINT8_C(48), UINT8_C(48), UINT8_C(48), UINT8_C(48), UINT8_C(48), UINT8_C(48), UINT8_C(48), UINT8_C(48), UINT8_C(48), UINT8_C(48), UINT8_C(48), UINT8_C(48), UINT8_C(61), UINT8_C(48), UINT8_C(48), UINT8_C(48), UINT8_C(48), UINT8_C(48), UINT8_C(48), UINT8_C(48), UINT8_C(48), UINT8_C(48), UINT8_C(48), UINT8_C(48), UINT8_C(48), UINT8_C(48), UINT8_C(48), UINT8_C(48), UINT8_C(48), UINT8_C(48), UINT8_C(48), UINT8_C(48), UINT8_C(48), UINT8_C(48), UINT8_C(48), UINT8_C(48), UINT8_C(48), UINT8_C(48), UINT8_C(48), UINT8_C(48), UINT8_C(48), UINT8_C(48), UINT8_C(48), UINT8_C(48), UINT8_C(48), UINT8_C(48), UINT8_C(48), UINT8_C(48), UINT8_C(48), UINT8_C(71), UINT8_C(48), UINT8_C(48), UINT8_C(48), UINT8_C(48), UINT8_C(48), UINT8_C(48), UINT8_C(48), UINT8_C(48), UINT8_C(48), UINT8_C(48), UINT8_C(48), UINT8_C(48), UINT8_C(48), UINT8_C(48), UINT8_C(70), UINT8_C(70), UINT8_C(70), UINT8_C(70), UINT8_C(70), UINT8_C(70), UINT8_C(70), UINT8_C(48), UINT8_C(48), UINT8_C(48), UINT8_C(48), UINT8_C(48), UINT8_C(48), UINT8_C(48), UINT8_C(48), UINT8_C(48), UINT8_C(48), UINT8_C(48), UINT8_C(48), UINT8_C(48), UINT8_C(48), UINT8_C(48), UINT8_C(48), UINT8_C(48), UINT8_C(71), UINT8_C(48), UINT8_C(48), UINT8_C(70), UINT8_C(48), UINT8_C(48), UINT8_C(48), UINT8_C(48), UINT8_C(48), UINT8_C(48), UINT8_C(48), UINT8_C(48), UINT8_C(48), UINT8_C(48), UINT8_C(48), UINT8_C(70), UINT8_C(70), UINT8_C(70), UINT8_C(70), UINT8_C(70), UINT8_C(70), UINT8_C(70), UINT8_C(48), UINT8_C(48), UINT8_C(48), UINT8_C(48), UINT8_C(48), UINT8_C(48), UINT8_C(48), UINT8_C(48), UINT8_C(48), UINT8_C(48), UINT8_C(48), UINT8_C(48), UINT8_C(48), UINT8_C(48), UINT8_C(48), UINT8_C(48), UINT8_C(48), UINT8_C(68), UINT8_C(48), UINT8_C(48), UINT8_C(70), UINT8_C(48), UINT8_C(48), UINT8_C(48), UINT8_C(48), UINT8_C(48), UINT8_C(48), UINT8_C(48), UINT8_C(48), UINT8_C(48), UINT8_C(48), UINT8_C(48), UINT8_C(70), UINT8_C(70), UINT8_C(70), UINT8_C(70), UINT8_C(70), UINT8_C(70), UINT8_C(70), UINT8_C(48), UINT8_C(48), UINT8_C(48), UINT8_C(48), UINT8_C(48), UINT8_C(48), UINT8_C(69), UINT8_C(48), UINT8_C(48), UINT8_C(48), UINT8_C(48), UINT8_C(48), UINT8_C(48), UINT8_C(48), UINT8_C(48), UINT8_C(48), UINT8_C(48), UINT8_C(48), UINT8_C(48), UINT8_C(48), UINT8_C(48), UINT8_C(48), UINT8_C(48), UINT8_C(48), UINT8_C(48), UINT8_C(48), UINT8_C(48), UINT8_C(48), UINT8_C(48), UINT8_C(48), UINT8_C(48), UINT8_C(48), UINT8_C(70), UINT8_C(70), UINT8_C(70), UINT8_C(70), UINT8_C(70), UINT8_C(70), UINT8_C(70), UINT8_C(48), UINT8_C(48), UINT8_C(48), UINT8_C(48), UINT8_C(48), UINT8_C(48), UINT8_C(48), UINT8_C(48), UINT8_C(48), UINT8_C(48), UINT8_C(48), UINT8_C(48), UINT8_C(48), UINT8_C(48), UINT8_C(48), UINT8_C(48), UINT8_C(48), UINT8_C(48), UINT8_C(48), UINT8_C(48), UINT8_C(48), UINT8_C(48), UINT8_C(61), UINT8_C(48), UINT8_C(48), UINT8_C(48), UINT8_C(48), UINT8_C(48), UINT8_C(48), UINT8_C(48), UINT8_C(48), UINT8_C(48), UINT8_C(70), UINT8_C(70), UINT8_C(70), UINT8_C(70), UINT8_C(70), UINT8_C(70), UINT8_C(70), UINT8_C(48), UINT8_C(48), UINT8_C(48) } };
+static const struct rt_array_uint8_1833 derive__step__l15 = { { UINT8_C(48), UINT8_C(48), UINT8_C(48), UINT8_C(48), UINT8_C(48), UINT8_C(48), UINT8_C(48), UINT8_C(48), UINT8_C(48), UINT8_C(48), UINT8_C(48), UINT8_C(48), UINT8_C(48), UINT8_C(48), UINT8_C(48), UINT8_C(48), UINT8_C(48), UINT8_C(48), UINT8_C(48), UINT8_C(48), UINT8_C(48), UINT8_C(48), UINT8_C(48), UINT8_C(48), UINT8_C(48), UINT8_C(48), UINT8_C(48), UINT8_C(48), UINT8_C(48), UINT8_C(48), UINT8_C(48), UINT8_C(48), UINT8_C(48), UINT8_C(48), UINT8_C(48), UINT8_C(48), UINT8_C(48), UINT8_C(48), UINT8_C(48), UINT8_C(48), UINT8_C(48), UINT8_C(48), UINT8_C(48), UINT8_C(48), UINT8_C(48), UINT8_C(48), UINT8_C(48), UINT8_C(48), UINT8_C(48), UINT8_C(48), UINT8_C(48), UINT8_C(48), UINT8_C(48), UINT8_C(48), UINT8_C(48), UINT8_C(48), UINT8_C(48), UINT8_C(48), UINT8_C(48), UINT8_C(48), UINT8_C(48), UINT8_C(48), UINT8_C(48), UINT8_C(48), UINT8_C(48), UINT8_C(48), UINT8_C(48), UINT8_C(48), UINT8_C(48), UINT8_C(48), UINT8_C(48), UINT8_C(48), UINT8_C(48), UINT8_C(48), UINT8_C(48), UINT8_C(48), UINT8_C(48), UINT8_C(48), UINT8_C(48), UINT8_C(48), UINT8_C(48), UINT8_C(48), UINT8_C(48), UINT8_C(48), UINT8_C(48), UINT8_C(48), UINT8_C(48), UINT8_C(48), UINT8_C(48), UINT8_C(48), UINT8_C(48), UINT8_C(48), UINT8_C(48), UINT8_C(48), UINT8_C(48), UINT8_C(48), UINT8_C(48), UINT8_C(48), UINT8_C(48), UINT8_C(48), UINT8_C(48), UINT8_C(48), UINT8_C(48), UINT8_C(48), UINT8_C(48), UINT8_C(48), UINT8_C(48), UINT8_C(48), UINT8_C(48), UINT8_C(48), UINT8_C(48), UINT8_C(48), UINT8_C(48), UINT8_C(48), UINT8_C(48), UINT8_C(48), UINT8_C(48), UINT8_C(48), UINT8_C(48), UINT8_C(48), UINT8_C(48), UINT8_C(48), UINT8_C(48), UINT8_C(48), UINT8_C(48), UINT8_C(48), UINT8_C(48), UINT8_C(48), UINT8_C(48), UINT8_C(48), UINT8_C(48), UINT8_C(48), UINT8_C(48), UINT8_C(48), UINT8_C(48), UINT8_C(48), UINT8_C(48), UINT8_C(48), UINT8_C(48), UINT8_C(48), UINT8_C(48), UINT8_C(48), UINT8_C(48), UINT8_C(48), UINT8_C(48), UINT8_C(48), UINT8_C(48), UINT8_C(48), UINT8_C(48), UINT8_C(48), UINT8_C(48), UINT8_C(48), UINT8_C(48), UINT8_C(48), UINT8_C(48), UINT8_C(48), UINT8_C(48), UINT8_C(48), UINT8_C(48), UINT8_C(48), UINT8_C(48), UINT8_C(48), UINT8_C(48), UINT8_C(48), UINT8_C(48), UINT8_C(48), UINT8_C(48), UINT8_C(48), UINT8_C(48), UINT8_C(48), UINT8_C(48), UINT8_C(48), UINT8_C(48), UINT8_C(48), UINT8_C(48), UINT8_C(48), UINT8_C(48), UINT8_C(48), UINT8_C(48), UINT8_C(48), UINT8_C(48), UINT8_C(48), UINT8_C(48), UINT8_C(48), UINT8_C(48), UINT8_C(48), UINT8_C(48), UINT8_C(48), UINT8_C(48), UINT8_C(48), UINT8_C(48), UINT8_C(48), UINT8_C(48), UINT8_C(48), UINT8_C(48), UINT8_C(48), UINT8_C(48), UINT8_C(48), UINT8_C(48), UINT8_C(48), UINT8_C(48), UINT8_C(48), UINT8_C(48), UINT8_C(48), UINT8_C(48), UINT8_C(48), UINT8_C(48), UINT8_C(48), UINT8_C(48), UINT8_C(48), UINT8_C(48), UINT8_C(48), UINT8_C(48), UINT8_C(48), UINT8_C(48), UINT8_C(48), UINT8_C(48), UINT8_C(48), UINT8_C(48), UINT8_C(48), UINT8_C(48), UINT8_C(48), UINT8_C(48), UINT8_C(48), UINT8_C(48), UINT8_C(48), UINT8_C(48), UINT8_C(48), UINT8_C(48), UINT8_C(48), UINT8_C(48), UINT8_C(48), UINT8_C(48), UINT8_C(48), UINT8_C(48), UINT8_C(48), UINT8_C(48), UINT8_C(48), UINT8_C(48), UINT8_C(48), UINT8_C(48), UINT8_C(48), UINT8_C(48), UINT8_C(48), UINT8_C(48), UINT8_C(48), UINT8_C(48), UINT8_C(48), UINT8_C(48), UINT8_C(48), UINT8_C(48), UINT8_C(48), UINT8_C(48), UINT8_C(48), UINT8_C(48), UINT8_C(48), UINT8_C(48), UINT8_C(48), UINT8_C(48), UINT8_C(48), UINT8_C(48), UINT8_C(48), UINT8_C(48), UINT8_C(48), UINT8_C(48), UINT8_C(48), UINT8_C(48), UINT8_C(48), UINT8_C(48), UINT8_C(48), UINT8_C(48), UINT8_C(48), UINT8_C(48), UINT8_C(48), UINT8_C(48), UINT8_C(48), UINT8_C(48), UINT8_C(48), UINT8_C(48), UINT8_C(48), UINT8_C(48), UINT8_C(48), UINT8_C(48), UINT8_C(48), UINT8_C(48), UINT8_C(48), UINT8_C(48), UINT8_C(48), UINT8_C(48), UINT8_C(48), UINT8_C(48), UINT8_C(48), UINT8_C(48), UINT8_C(48), UINT8_C(48), UINT8_C(48), UINT8_C(48), UINT8_C(48), UINT8_C(48), UINT8_C(48), UINT8_C(48), UINT8_C(48), UINT8_C(48), UINT8_C(48), UINT8_C(48), UINT8_C(48), UINT8_C(48), UINT8_C(48), UINT8_C(48), UINT8_C(48), UINT8_C(48), UINT8_C(48), UINT8_C(48), UINT8_C(48), UINT8_C(48), UINT8_C(48), UINT8_C(48), UINT8_C(48), UINT8_C(48), UINT8_C(48), UINT8_C(48), UINT8_C(48), UINT8_C(48), UINT8_C(48), UINT8_C(48), UINT8_C(48), UINT8_C(48), UINT8_C(48), UINT8_C(48), UINT8_C(48), UINT8_C(48), UINT8_C(48), UINT8_C(48), UINT8_C(48), UINT8_C(48), UINT8_C(48), UINT8_C(48), UINT8_C(48), UINT8_C(48), UINT8_C(48), UINT8_C(48), UINT8_C(48), UINT8_C(48), UINT8_C(48), UINT8_C(48), UINT8_C(48), UINT8_C(48), UINT8_C(48), UINT8_C(48), UINT8_C(48), UINT8_C(48), UINT8_C(48), UINT8_C(48), UINT8_C(48), UINT8_C(48), UINT8_C(48), UINT8_C(48), UINT8_C(48), UINT8_C(48), UINT8_C(48), UINT8_C(48), UINT8_C(48), UINT8_C(48), UINT8_C(48), UINT8_C(48), UINT8_C(48), UINT8_C(48), UINT8_C(48), UINT8_C(48), UINT8_C(48), UINT8_C(48), UINT8_C(48), UINT8_C(48), UINT8_C(48), UINT8_C(48), UINT8_C(48), UINT8_C(48), UINT8_C(48), UINT8_C(48), UINT8_C(48), UINT8_C(48), UINT8_C(48), UINT8_C(48), UINT8_C(48), UINT8_C(48), UINT8_C(48), UINT8_C(48), UINT8_C(48), UINT8_C(48), UINT8_C(48), UINT8_C(48), UINT8_C(48), UINT8_C(48), UINT8_C(48), UINT8_C(48), UINT8_C(48), UINT8_C(48), UINT8_C(48), UINT8_C(48), UINT8_C(48), UINT8_C(48), UINT8_C(48), UINT8_C(48), UINT8_C(48), UINT8_C(48), UINT8_C(48), UINT8_C(48), UINT8_C(48), UINT8_C(48), UINT8_C(48), UINT8_C(48), UINT8_C(48), UINT8_C(48), UINT8_C(48), UINT8_C(48), UINT8_C(48), UINT8_C(48), UINT8_C(48), UINT8_C(48), UINT8_C(48), UINT8_C(48), UINT8_C(48), UINT8_C(48), UINT8_C(48), UINT8_C(48), UINT8_C(48), UINT8_C(48), UINT8_C(48), UINT8_C(48), UINT8_C(48), UINT8_C(48), UINT8_C(48), UINT8_C(48), UINT8_C(48), UINT8_C(48), UINT8_C(48), UINT8_C(48), UINT8_C(48), UINT8_C(48), UINT8_C(48), UINT8_C(48), UINT8_C(48), UINT8_C(48), UINT8_C(48), UINT8_C(48), UINT8_C(48), UINT8_C(48), UINT8_C(48), UINT8_C(48), UINT8_C(48), UINT8_C(48), UINT8_C(48), UINT8_C(48), UINT8_C(48), UINT8_C(48), UINT8_C(48), UINT8_C(48), UINT8_C(48), UINT8_C(48), UINT8_C(48), UINT8_C(48), UINT8_C(48), UINT8_C(48), UINT8_C(48), UINT8_C(48), UINT8_C(48), UINT8_C(48), UINT8_C(48), UINT8_C(48), UINT8_C(48), UINT8_C(48), UINT8_C(48), UINT8_C(48), UINT8_C(48), UINT8_C(48), UINT8_C(48), UINT8_C(48), UINT8_C(48), UINT8_C(48), UINT8_C(48), UINT8_C(48), UINT8_C(48), UINT8_C(48), UINT8_C(88), UINT8_C(48), UINT8_C(48), UINT8_C(48), UINT8_C(48), UINT8_C(48), UINT8_C(48), UINT8_C(48), UINT8_C(48), UINT8_C(48), UINT8_C(48), UINT8_C(48), UINT8_C(48), UINT8_C(48), UINT8_C(48), UINT8_C(48), UINT8_C(48), UINT8_C(48), UINT8_C(48), UINT8_C(48), UINT8_C(48), UINT8_C(48), UINT8_C(48), UINT8_C(48), UINT8_C(48), UINT8_C(48), UINT8_C(86), UINT8_C(48), UINT8_C(48), UINT8_C(48), UINT8_C(48), UINT8_C(48), UINT8_C(48), UINT8_C(48), UINT8_C(48), UINT8_C(48), UINT8_C(48), UINT8_C(48), UINT8_C(48), UINT8_C(48), UINT8_C(48), UINT8_C(48), UINT8_C(48), UINT8_C(48), UINT8_C(48), UINT8_C(48), UINT8_C(48), UINT8_C(48), UINT8_C(48), UINT8_C(48), UINT8_C(48), UINT8_C(48), UINT8_C(48), UINT8_C(48), UINT8_C(48), UINT8_C(48), UINT8_C(48), UINT8_C(48), UINT8_C(48), UINT8_C(48), UINT8_C(48), UINT8_C(48), UINT8_C(48), UINT8_C(48), UINT8_C(48), UINT8_C(48), UINT8_C(48), UINT8_C(48), UINT8_C(48), UINT8_C(48), UINT8_C(48), UINT8_C(48), UINT8_C(48), UINT8_C(48), UINT8_C(48), UINT8_C(48), UINT8_C(85), UINT8_C(48), UINT8_C(48), UINT8_C(48), UINT8_C(48), UINT8_C(48), UINT8_C(48), UINT8_C(87), UINT8_C(48), UINT8_C(48), UINT8_C(48), UINT8_C(48), UINT8_C(48), UINT8_C(48), UINT8_C(48), UINT8_C(48), UINT8_C(48), UINT8_C(48), UINT8_C(48), UINT8_C(48), UINT8_C(48), UINT8_C(48), UINT8_C(48), UINT8_C(48), UINT8_C(48), UINT8_C(48), UINT8_C(48), UINT8_C(48), UINT8_C(48), UINT8_C(48), UINT8_C(48), UINT8_C(48), UINT8_C(48), UINT8_C(48), UINT8_C(48), UINT8_C(48), UINT8_C(48), UINT8_C(48), UINT8_C(48), UINT8_C(48), UINT8_C(48), UINT8_C(48), UINT8_C(48), UINT8_C(48), UINT8_C(48), UINT8_C(48), UINT8_C(48), UINT8_C(48), UINT8_C(48), UINT8_C(48), UINT8_C(48), UINT8_C(48), UINT8_C(48), UINT8_C(48), UINT8_C(48), UINT8_C(48), UINT8_C(48), UINT8_C(48), UINT8_C(48), UINT8_C(48), UINT8_C(48), UINT8_C(48), UINT8_C(48), UINT8_C(48), UINT8_C(48), UINT8_C(48), UINT8_C(48), UINT8_C(48), UINT8_C(48), UINT8_C(48), UINT8_C(48), UINT8_C(48), UINT8_C(48), UINT8_C(48), UINT8_C(48), UINT8_C(48), UINT8_C(48), UINT8_C(48), UINT8_C(48), UINT8_C(48), UINT8_C(48), UINT8_C(48), UINT8_C(48), UINT8_C(48), UINT8_C(48), UINT8_C(87), UINT8_C(48), UINT8_C(48), UINT8_C(48), UINT8_C(48), UINT8_C(48), UINT8_C(48), UINT8_C(48), UINT8_C(48), UINT8_C(48), UINT8_C(48), UINT8_C(48), UINT8_C(48), UINT8_C(48), UINT8_C(48), UINT8_C(48), UINT8_C(48), UINT8_C(48), UINT8_C(48), UINT8_C(48), UINT8_C(48), UINT8_C(48), UINT8_C(48), UINT8_C(48), UINT8_C(48), UINT8_C(48), UINT8_C(48), UINT8_C(48), UINT8_C(48), UINT8_C(48), UINT8_C(48), UINT8_C(48), UINT8_C(48), UINT8_C(48), UINT8_C(48), UINT8_C(48), UINT8_C(48), UINT8_C(48), UINT8_C(48), UINT8_C(48), UINT8_C(48), UINT8_C(48), UINT8_C(48), UINT8_C(48), UINT8_C(48), UINT8_C(48), UINT8_C(48), UINT8_C(48), UINT8_C(48), UINT8_C(48), UINT8_C(48), UINT8_C(48), UINT8_C(48), UINT8_C(48), UINT8_C(48), UINT8_C(48), UINT8_C(48), UINT8_C(48), UINT8_C(48), UINT8_C(48), UINT8_C(48), UINT8_C(48), UINT8_C(48), UINT8_C(48), UINT8_C(48), UINT8_C(48), UINT8_C(48), UINT8_C(48), UINT8_C(48), UINT8_C(48), UINT8_C(48), UINT8_C(48), UINT8_C(48), UINT8_C(48), UINT8_C(48), UINT8_C(48), UINT8_C(48), UINT8_C(48), UINT8_C(87), UINT8_C(48), UINT8_C(48), UINT8_C(48), UINT8_C(48), UINT8_C(48), UINT8_C(48), UINT8_C(48), UINT8_C(48), UINT8_C(48), UINT8_C(48), UINT8_C(48), UINT8_C(48), UINT8_C(48), UINT8_C(48), UINT8_C(48), UINT8_C(48), UINT8_C(48), UINT8_C(48), UINT8_C(48), UINT8_C(48), UINT8_C(48), UINT8_C(48), UINT8_C(48), UINT8_C(48), UINT8_C(48), UINT8_C(48), UINT8_C(48), UINT8_C(48), UINT8_C(48), UINT8_C(48), UINT8_C(48), UINT8_C(83), UINT8_C(48), UINT8_C(48), UINT8_C(48), UINT8_C(48), UINT8_C(48), UINT8_C(48), UINT8_C(48), UINT8_C(48), UINT8_C(48), UINT8_C(48), UINT8_C(48), UINT8_C(48), UINT8_C(48), UINT8_C(48), UINT8_C(48), UINT8_C(48), UINT8_C(48), UINT8_C(48), UINT8_C(48), UINT8_C(48), UINT8_C(48), UINT8_C(48), UINT8_C(48), UINT8_C(48), UINT8_C(48), UINT8_C(48), UINT8_C(48), UINT8_C(48), UINT8_C(48), UINT8_C(48), UINT8_C(48), UINT8_C(48), UINT8_C(48), UINT8_C(48), UINT8_C(48), UINT8_C(48), UINT8_C(48), UINT8_C(48), UINT8_C(48), UINT8_C(48), UINT8_C(48), UINT8_C(48), UINT8_C(48), UINT8_C(48), UINT8_C(48), UINT8_C(48), UINT8_C(48), UINT8_C(48), UINT8_C(48), UINT8_C(48), UINT8_C(48), UINT8_C(48), UINT8_C(48), UINT8_C(48), UINT8_C(48), UINT8_C(48), UINT8_C(48), UINT8_C(48), UINT8_C(48), UINT8_C(48), UINT8_C(48), UINT8_C(48), UINT8_C(48), UINT8_C(48), UINT8_C(48), UINT8_C(48), UINT8_C(48), UINT8_C(48), UINT8_C(48), UINT8_C(48), UINT8_C(48), UINT8_C(48), UINT8_C(48), UINT8_C(48), UINT8_C(48), UINT8_C(48), UINT8_C(48), UINT8_C(48), UINT8_C(48), UINT8_C(89), UINT8_C(48), UINT8_C(48), UINT8_C(48), UINT8_C(48), UINT8_C(48), UINT8_C(48), UINT8_C(48), UINT8_C(48), UINT8_C(48), UINT8_C(48), UINT8_C(48), UINT8_C(48), UINT8_C(48), UINT8_C(48), UINT8_C(48), UINT8_C(48), UINT8_C(48), UINT8_C(48), UINT8_C(48), UINT8_C(48), UINT8_C(48), UINT8_C(48), UINT8_C(48), UINT8_C(48), UINT8_C(48), UINT8_C(48), UINT8_C(48), UINT8_C(48), UINT8_C(48), UINT8_C(48), UINT8_C(48), UINT8_C(48), UINT8_C(48), UINT8_C(48), UINT8_C(48), UINT8_C(48), UINT8_C(83), UINT8_C(48), UINT8_C(48), UINT8_C(48), UINT8_C(48), UINT8_C(48), UINT8_C(48), UINT8_C(48), UINT8_C(48), UINT8_C(48), UINT8_C(48), UINT8_C(48), UINT8_C(48), UINT8_C(48), UINT8_C(48), UINT8_C(48), UINT8_C(48), UINT8_C(48), UINT8_C(48), UINT8_C(48), UINT8_C(48), UINT8_C(48), UINT8_C(48), UINT8_C(48), UINT8_C(48), UINT8_C(48), UINT8_C(48), UINT8_C(48), UINT8_C(48), UINT8_C(48), UINT8_C(48), UINT8_C(48), UINT8_C(48), UINT8_C(48), UINT8_C(48), UINT8_C(48), UINT8_C(48), UINT8_C(48), UINT8_C(48), UINT8_C(48), UINT8_C(48), UINT8_C(48), UINT8_C(48), UINT8_C(48), UINT8_C(48), UINT8_C(48), UINT8_C(48), UINT8_C(48), UINT8_C(48), UINT8_C(48), UINT8_C(48), UINT8_C(48), UINT8_C(48), UINT8_C(48), UINT8_C(48), UINT8_C(48), UINT8_C(48), UINT8_C(48), UINT8_C(48), UINT8_C(48), UINT8_C(48), UINT8_C(48), UINT8_C(48), UINT8_C(48), UINT8_C(48), UINT8_C(48), UINT8_C(48), UINT8_C(48), UINT8_C(48), UINT8_C(48), UINT8_C(48), UINT8_C(48), UINT8_C(48), UINT8_C(48), UINT8_C(48), UINT8_C(48), UINT8_C(48), UINT8_C(48), UINT8_C(84), UINT8_C(48), UINT8_C(48), UINT8_C(48), UINT8_C(48), UINT8_C(48), UINT8_C(48), UINT8_C(48), UINT8_C(48), UINT8_C(48), UINT8_C(48), UINT8_C(48), UINT8_C(48), UINT8_C(48), UINT8_C(48), UINT8_C(48), UINT8_C(48), UINT8_C(48), UINT8_C(48), UINT8_C(48), UINT8_C(48), UINT8_C(48), UINT8_C(48), UINT8_C(48), UINT8_C(48), UINT8_C(48), UINT8_C(48), UINT8_C(48), UINT8_C(48), UINT8_C(48), UINT8_C(48), UINT8_C(48), UINT8_C(48), UINT8_C(48), UINT8_C(48), UINT8_C(48), UINT8_C(48), UINT8_C(48), UINT8_C(48), UINT8_C(48), UINT8_C(48), UINT8_C(48), UINT8_C(48), UINT8_C(48), UINT8_C(48), UINT8_C(48), UINT8_C(48), UINT8_C(48), UINT8_C(48), UINT8_C(48), UINT8_C(48), UINT8_C(48), UINT8_C(48), UINT8_C(48), UINT8_C(48), UINT8_C(48), UINT8_C(48), UINT8_C(48), UINT8_C(48), UINT8_C(48), UINT8_C(48), UINT8_C(48), UINT8_C(48), UINT8_C(48), UINT8_C(48), UINT8_C(48), UINT8_C(48), UINT8_C(48), UINT8_C(48), UINT8_C(48), UINT8_C(48), UINT8_C(48), UINT8_C(48), UINT8_C(48), UINT8_C(48), UINT8_C(48), UINT8_C(48), UINT8_C(48), UINT8_C(48), UINT8_C(48), UINT8_C(48), UINT8_C(48), UINT8_C(48), UINT8_C(48), UINT8_C(48), UINT8_C(48), UINT8_C(48), UINT8_C(48), UINT8_C(48), UINT8_C(48), UINT8_C(48), UINT8_C(48), UINT8_C(48), UINT8_C(48), UINT8_C(48), UINT8_C(48), UINT8_C(48), UINT8_C(48), UINT8_C(48), UINT8_C(48), UINT8_C(48), UINT8_C(48), UINT8_C(48), UINT8_C(48), UINT8_C(48), UINT8_C(48), UINT8_C(48), UINT8_C(48), UINT8_C(48), UINT8_C(48), UINT8_C(48), UINT8_C(48), UINT8_C(48), UINT8_C(48), UINT8_C(48), UINT8_C(48), UINT8_C(48), UINT8_C(83), UINT8_C(48), UINT8_C(48), UINT8_C(48), UINT8_C(48), UINT8_C(48), UINT8_C(48), UINT8_C(48), UINT8_C(48), UINT8_C(48), UINT8_C(48), UINT8_C(48), UINT8_C(48), UINT8_C(48), UINT8_C(48), UINT8_C(48), UINT8_C(48), UINT8_C(48), UINT8_C(48), UINT8_C(48), UINT8_C(48), UINT8_C(48), UINT8_C(48), UINT8_C(48), UINT8_C(48), UINT8_C(48), UINT8_C(48), UINT8_C(48), UINT8_C(48), UINT8_C(48), UINT8_C(48), UINT8_C(48), UINT8_C(48), UINT8_C(48), UINT8_C(48), UINT8_C(48), UINT8_C(48), UINT8_C(48), UINT8_C(48), UINT8_C(48), UINT8_C(48), UINT8_C(48), UINT8_C(48), UINT8_C(48), UINT8_C(48), UINT8_C(48), UINT8_C(48), UINT8_C(48), UINT8_C(48), UINT8_C(48), UINT8_C(48), UINT8_C(48), UINT8_C(48), UINT8_C(48), UINT8_C(48), UINT8_C(48), UINT8_C(48), UINT8_C(48), UINT8_C(48), UINT8_C(48), UINT8_C(48), UINT8_C(48), UINT8_C(48), UINT8_C(48), UINT8_C(48), UINT8_C(48), UINT8_C(48), UINT8_C(48), UINT8_C(48), UINT8_C(48), UINT8_C(48), UINT8_C(48), UINT8_C(48), UINT8_C(48), UINT8_C(48), UINT8_C(48), UINT8_C(48), UINT8_C(48), UINT8_C(48), UINT8_C(48), UINT8_C(48), UINT8_C(48), UINT8_C(48), UINT8_C(48), UINT8_C(48), UINT8_C(48), UINT8_C(48), UINT8_C(48), UINT8_C(48), UINT8_C(48), UINT8_C(48), UINT8_C(48), UINT8_C(48), UINT8_C(48), UINT8_C(48), UINT8_C(48), UINT8_C(48), UINT8_C(48), UINT8_C(48), UINT8_C(48), UINT8_C(48), UINT8_C(48), UINT8_C(48), UINT8_C(48), UINT8_C(48), UINT8_C(48), UINT8_C(48), UINT8_C(48), UINT8_C(48), UINT8_C(48), UINT8_C(48), UINT8_C(48), UINT8_C(48), UINT8_C(48), UINT8_C(48), UINT8_C(48), UINT8_C(48), UINT8_C(48), UINT8_C(48), UINT8_C(48), UINT8_C(48), UINT8_C(48), UINT8_C(48), UINT8_C(48), UINT8_C(48), UINT8_C(48), UINT8_C(48), UINT8_C(48), UINT8_C(48), UINT8_C(48), UINT8_C(48), UINT8_C(48), UINT8_C(48), UINT8_C(48), UINT8_C(48), UINT8_C(48), UINT8_C(48), UINT8_C(48), UINT8_C(48), UINT8_C(48), UINT8_C(48), UINT8_C(48), UINT8_C(48), UINT8_C(48), UINT8_C(48), UINT8_C(48), UINT8_C(48), UINT8_C(48), UINT8_C(48), UINT8_C(48), UINT8_C(48), UINT8_C(48), UINT8_C(48), UINT8_C(48), UINT8_C(48), UINT8_C(48), UINT8_C(48), UINT8_C(48), UINT8_C(48), UINT8_C(48), UINT8_C(48), UINT8_C(48), UINT8_C(48), UINT8_C(48), UINT8_C(48), UINT8_C(48), UINT8_C(48), UINT8_C(48), UINT8_C(48), UINT8_C(48), UINT8_C(48), UINT8_C(48), UINT8_C(48), UINT8_C(48), UINT8_C(48), UINT8_C(48), UINT8_C(48), UINT8_C(48), UINT8_C(48), UINT8_C(48), UINT8_C(48), UINT8_C(48), UINT8_C(48), UINT8_C(48), UINT8_C(48), UINT8_C(48), UINT8_C(48), UINT8_C(48), UINT8_C(48), UINT8_C(48), UINT8_C(48), UINT8_C(48), UINT8_C(48), UINT8_C(48), UINT8_C(48), UINT8_C(82), UINT8_C(48), UINT8_C(48), UINT8_C(48), UINT8_C(48), UINT8_C(48), UINT8_C(48), UINT8_C(48), UINT8_C(48), UINT8_C(48), UINT8_C(48), UINT8_C(48), UINT8_C(48), UINT8_C(48), UINT8_C(48), UINT8_C(48), UINT8_C(48), UINT8_C(48), UINT8_C(48), UINT8_C(48), UINT8_C(48), UINT8_C(48), UINT8_C(48), UINT8_C(48), UINT8_C(48), UINT8_C(48), UINT8_C(48), UINT8_C(48), UINT8_C(48), UINT8_C(48), UINT8_C(48), UINT8_C(48), UINT8_C(48), UINT8_C(48), UINT8_C(48), UINT8_C(48), UINT8_C(48), UINT8_C(48), UINT8_C(48), UINT8_C(48), UINT8_C(48), UINT8_C(48), UINT8_C(48), UINT8_C(48), UINT8_C(48), UINT8_C(48), UINT8_C(48), UINT8_C(48), UINT8_C(48), UINT8_C(48), UINT8_C(48), UINT8_C(48), UINT8_C(48), UINT8_C(48), UINT8_C(48), UINT8_C(48), UINT8_C(48), UINT8_C(48), UINT8_C(48), UINT8_C(48), UINT8_C(48), UINT8_C(48), UINT8_C(48), UINT8_C(48), UINT8_C(48), UINT8_C(48), UINT8_C(48), UINT8_C(48), UINT8_C(48), UINT8_C(48), UINT8_C(48), UINT8_C(48), UINT8_C(48), UINT8_C(48), UINT8_C(48), UINT8_C(48), UINT8_C(48), UINT8_C(48), UINT8_C(48), UINT8_C(48), UINT8_C(48), UINT8_C(48), UINT8_C(48), UINT8_C(48), UINT8_C(48), UINT8_C(48), UINT8_C(48), UINT8_C(48), UINT8_C(48), UINT8_C(48), UINT8_C(48), UINT8_C(48), UINT8_C(48), UINT8_C(48), UINT8_C(48), UINT8_C(48), UINT8_C(48), UINT8_C(48), UINT8_C(48), UINT8_C(48), UINT8_C(48), UINT8_C(48), UINT8_C(48), UINT8_C(48), UINT8_C(48), UINT8_C(48), UINT8_C(48), UINT8_C(48), UINT8_C(48), UINT8_C(48), UINT8_C(48), UINT8_C(48), UINT8_C(48), UINT8_C(48), UINT8_C(48), UINT8_C(48), UINT8_C(48), UINT8_C(48), UINT8_C(48), UINT8_C(48), UINT8_C(48), UINT8_C(48), UINT8_C(48), UINT8_C(48), UINT8_C(48), UINT8_C(48), UINT8_C(48), UINT8_C(90), UINT8_C(90), UINT8_C(90), UINT8_C(90), UINT8_C(90), UINT8_C(90), UINT8_C(83), UINT8_C(83), UINT8_C(83), UINT8_C(83), UINT8_C(83), UINT8_C(83), UINT8_C(83), UINT8_C(48), UINT8_C(48), UINT8_C(48), UINT8_C(48), UINT8_C(48), UINT8_C(48), UINT8_C(48), UINT8_C(48), UINT8_C(48), UINT8_C(48), UINT8_C(48), UINT8_C(48), UINT8_C(48), UINT8_C(48), UINT8_C(48), UINT8_C(48), UINT8_C(48), UINT8_C(48), UINT8_C(48), UINT8_C(48), UINT8_C(84), UINT8_C(48), UINT8_C(48), UINT8_C(48), UINT8_C(48), UINT8_C(48), UINT8_C(91), UINT8_C(91), UINT8_C(91), UINT8_C(91), UINT8_C(91), UINT8_C(91), UINT8_C(84), UINT8_C(84), UINT8_C(84), UINT8_C(84), UINT8_C(84), UINT8_C(84), UINT8_C(84), UINT8_C(48), UINT8_C(48), UINT8_C(48), UINT8_C(48), UINT8_C(48), UINT8_C(48), UINT8_C(48), UINT8_C(48), UINT8_C(48), UINT8_C(48), UINT8_C(48), UINT8_C(48), UINT8_C(48), UINT8_C(48), UINT8_C(48), UINT8_C(48), UINT8_C(48), UINT8_C(48), UINT8_C(48), UINT8_C(48), UINT8_C(85), UINT8_C(48), UINT8_C(48), UINT8_C(48), UINT8_C(48), UINT8_C(48), UINT8_C(92), UINT8_C(92), UINT8_C(92), UINT8_C(92), UINT8_C(92), UINT8_C(92), UINT8_C(85), UINT8_C(85), UINT8_C(85), UINT8_C(85), UINT8_C(85), UINT8_C(85), UINT8_C(85), UINT8_C(48), UINT8_C(48), UINT8_C(48), UINT8_C(48), UINT8_C(48), UINT8_C(48), UINT8_C(48), UINT8_C(48), UINT8_C(48), UINT8_C(48), UINT8_C(48), UINT8_C(48), UINT8_C(48), UINT8_C(48), UINT8_C(48), UINT8_C(48), UINT8_C(48), UINT8_C(48), UINT8_C(48), UINT8_C(48), UINT8_C(48), UINT8_C(48), UINT8_C(48), UINT8_C(48), UINT8_C(48), UINT8_C(48), UINT8_C(93), UINT8_C(93), UINT8_C(93), UINT8_C(93), UINT8_C(93), UINT8_C(93), UINT8_C(86), UINT8_C(86), UINT8_C(86), UINT8_C(86), UINT8_C(86), UINT8_C(86), UINT8_C(86), UINT8_C(48), UINT8_C(48), UINT8_C(48), UINT8_C(48), UINT8_C(48), UINT8_C(48), UINT8_C(48), UINT8_C(48), UINT8_C(48), UINT8_C(48), UINT8_C(48), UINT8_C(48), UINT8_C(48), UINT8_C(48), UINT8_C(48), UINT8_C(48), UINT8_C(48), UINT8_C(48), UINT8_C(48), UINT8_C(48), UINT8_C(48), UINT8_C(48), UINT8_C(48), UINT8_C(48), UINT8_C(48), UINT8_C(48), UINT8_C(94), UINT8_C(94), UINT8_C(94), UINT8_C(94), UINT8_C(94), UINT8_C(94), UINT8_C(87), UINT8_C(87), UINT8_C(87), UINT8_C(87), UINT8_C(87), UINT8_C(87), UINT8_C(87), UINT8_C(48), UINT8_C(48), UINT8_C(48), UINT8_C(48), UINT8_C(48), UINT8_C(48), UINT8_C(48), UINT8_C(48), UINT8_C(48), UINT8_C(48), UINT8_C(48), UINT8_C(48), UINT8_C(48), UINT8_C(48), UINT8_C(48), UINT8_C(48), UINT8_C(48), UINT8_C(48), UINT8_C(48), UINT8_C(48), UINT8_C(48), UINT8_C(48), UINT8_C(48), UINT8_C(48), UINT8_C(48), UINT8_C(48), UINT8_C(48), UINT8_C(48), UINT8_C(48), UINT8_C(48), UINT8_C(48), UINT8_C(48), UINT8_C(48), UINT8_C(48), UINT8_C(48), UINT8_C(48), UINT8_C(48), UINT8_C(48), UINT8_C(48), UINT8_C(48), UINT8_C(48), UINT8_C(48), UINT8_C(48), UINT8_C(48), UINT8_C(48), UINT8_C(48), UINT8_C(48), UINT8_C(48), UINT8_C(48), UINT8_C(48), UINT8_C(48), UINT8_C(48), UINT8_C(48), UINT8_C(48), UINT8_C(48), UINT8_C(48), UINT8_C(48), UINT8_C(48), UINT8_C(48), UINT8_C(48), UINT8_C(48), UINT8_C(48), UINT8_C(48), UINT8_C(48), UINT8_C(48), UINT8_C(48), UINT8_C(48), UINT8_C(48), UINT8_C(48), UINT8_C(48), UINT8_C(48), UINT8_C(48), UINT8_C(48), UINT8_C(48), UINT8_C(48), UINT8_C(48), UINT8_C(48), UINT8_C(48), UINT8_C(48), UINT8_C(48), UINT8_C(48), UINT8_C(48), UINT8_C(48), UINT8_C(48), UINT8_C(48), UINT8_C(48), UINT8_C(48), UINT8_C(48), UINT8_C(48), UINT8_C(48), UINT8_C(48), UINT8_C(48), UINT8_C(48), UINT8_C(48), UINT8_C(48), UINT8_C(48), UINT8_C(48), UINT8_C(48), UINT8_C(48), UINT8_C(48), UINT8_C(48), UINT8_C(48), UINT8_C(48), UINT8_C(48), UINT8_C(48), UINT8_C(48), UINT8_C(48), UINT8_C(48), UINT8_C(48), UINT8_C(48), UINT8_C(90), UINT8_C(90), UINT8_C(90), UINT8_C(90), UINT8_C(90), UINT8_C(83), UINT8_C(83), UINT8_C(48), UINT8_C(48), UINT8_C(48), UINT8_C(48), UINT8_C(48), UINT8_C(48), UINT8_C(48), UINT8_C(48), UINT8_C(48), UINT8_C(48), UINT8_C(48), UINT8_C(48), UINT8_C(48), UINT8_C(48), UINT8_C(48), UINT8_C(48), UINT8_C(48), UINT8_C(48), UINT8_C(48), UINT8_C(48), UINT8_C(84), UINT8_C(48), UINT8_C(48), UINT8_C(48), UINT8_C(48), UINT8_C(48), UINT8_C(48), UINT8_C(48), UINT8_C(48), UINT8_C(48), UINT8_C(48), UINT8_C(48), UINT8_C(91), UINT8_C(91), UINT8_C(91), UINT8_C(91), UINT8_C(91), UINT8_C(84), UINT8_C(84), UINT8_C(48), UINT8_C(48), UINT8_C(48), UINT8_C(48), UINT8_C(48), UINT8_C(48), UINT8_C(48), UINT8_C(48), UINT8_C(48), UINT8_C(48), UINT8_C(48), UINT8_C(48), UINT8_C(48), UINT8_C(48), UINT8_C(48), UINT8_C(48), UINT8_C(48), UINT8_C(48), UINT8_C(48), UINT8_C(48), UINT8_C(85), UINT8_C(48), UINT8_C(48), UINT8_C(48), UINT8_C(48), UINT8_C(48), UINT8_C(48), UINT8_C(48), UINT8_C(48), UINT8_C(48), UINT8_C(48), UINT8_C(48), UINT8_C(92), UINT8_C(92), UINT8_C(92), UINT8_C(92), UINT8_C(92), UINT8_C(85), UINT8_C(85), UINT8_C(48), UINT8_C(48), UINT8_C(48), UINT8_C(48), UINT8_C(48), UINT8_C(48), UINT8_C(48), UINT8_C(48), UINT8_C(48), UINT8_C(48), UINT8_C(48), UINT8_C(48), UINT8_C(48), UINT8_C(48), UINT8_C(48), UINT8_C(48), UINT8_C(48), UINT8_C(48), UINT8_C(48), UINT8_C(48), UINT8_C(48), UINT8_C(48), UINT8_C(48), UINT8_C(48), UINT8_C(48), UINT8_C(48), UINT8_C(48), UINT8_C(48), UINT8_C(48), UINT8_C(48), UINT8_C(48), UINT8_C(48), UINT8_C(93), UINT8_C(93), UINT8_C(93), UINT8_C(93), UINT8_C(93), UINT8_C(86), UINT8_C(86), UINT8_C(48), UINT8_C(48), UINT8_C(48), UINT8_C(48), UINT8_C(48), UINT8_C(48), UINT8_C(48), UINT8_C(48), UINT8_C(48), UINT8_C(48), UINT8_C(48), UINT8_C(48), UINT8_C(48), UINT8_C(48), UINT8_C(48), UINT8_C(48), UINT8_C(48), UINT8_C(48), UINT8_C(48), UINT8_C(48), UINT8_C(48), UINT8_C(48), UINT8_C(48), UINT8_C(48), UINT8_C(48), UINT8_C(48), UINT8_C(48), UINT8_C(48), UINT8_C(48), UINT8_C(48), UINT8_C(48), UINT8_C(48), UINT8_C(94), UINT8_C(94), UINT8_C(94), UINT8_C(94), UINT8_C(94), UINT8_C(87), UINT8_C(87), UINT8_C(48), UINT8_C(48), UINT8_C(48) } };
+static RT_HERE struct derive__Mark derive__step(rt_slice l1, struct derive__Mark l2, uint8_t l3)
 {
     struct derive__Mark l0;
     uint8_t l4;
-    uint8_t *l7;
-    rt_slice l8;
+    uint8_t *l5;
+    uint8_t *l6;
+    rt_slice l7;
+    uint8_t *l8;
     uint8_t *l9;
     rt_slice l10;
     uint8_t *l11;
     rt_slice l12;
     uint64_t l13;
     l4 = l2.f0;
-    l7 = (uint8_t *)&derive__step__l5;
-    l8.p = l7;
-    l8.n = UINT64_C(1833);
-    l9 = (uint8_t *)&derive__step__l6;
+    l5 = (uint8_t *)&derive__step__l14;
+    l6 = (uint8_t *)&(*(uint8_t *)l5);
+    l7.p = l6;
+    l7.n = UINT64_C(1833);
+    l8 = (uint8_t *)&derive__step__l15;
+    l9 = (uint8_t *)&(*(uint8_t *)l8);
     l10.p = l9;
     l10.n = UINT64_C(1833);
     l11 = (uint8_t *)&(*(uint8_t *)l1.p);
     l12.p = l11;
     l12.n = l1.n;
     l13 = derive__index(l4, l3);
-    l0 = derive__moved(l8, l10, l12, l2, l3, l13);
+    l0 = derive__moved(l7, l10, l12, l2, l3, l13);
     return l0;
 }
 
@@ -5279,7 +5399,7 @@ end1:;
     return l0;
 }
 
-static inline struct directory__rows__Sought directory__rows__find(rt_slice l1, uint8_t l2, uint8_t l3, uint8_t l4)
+static RT_HERE struct directory__rows__Sought directory__rows__find(rt_slice l1, uint8_t l2, uint8_t l3, uint8_t l4)
 {
     struct directory__rows__Sought l0;
     uint64_t l5;
@@ -5622,7 +5742,7 @@ end1:;
     return l0;
 }
 
-static inline struct emit__Put emit__steps__step(rt_slice l1, rt_slice l2, uint64_t l3, rt_slice l4, uint64_t l5)
+static RT_HERE struct emit__Put emit__steps__step(rt_slice l1, rt_slice l2, uint64_t l3, rt_slice l4, uint64_t l5)
 {
     struct emit__Put l0;
     uint64_t l6;
@@ -5663,7 +5783,8 @@ static inline struct emit__Put emit__stmts__block(rt_slice l1, rt_slice l2, uint
     l17.p = l16;
     l17.n = l5.n;
     emit__words__store(l17, l6, l10);
-    l0 = l7;
+    l0.f0 = l7.f0;
+    l0.f1 = l7.f1;
     return l0;
 }
 
@@ -5701,7 +5822,8 @@ static inline struct emit__Put emit__stmts__body(rt_slice l1, rt_slice l2, uint6
         l7 = (uint8_t)((uint32_t)l7 - (uint32_t)UINT8_C(1));
     }
 end1:;
-    l0 = l8;
+    l0.f0 = l8.f0;
+    l0.f1 = l8.f1;
     return l0;
 }
 
@@ -6002,7 +6124,7 @@ static inline struct emit__Put emit__words__path(rt_slice l1, uint64_t l2, rt_sl
     return l0;
 }
 
-static inline struct emit__Put emit__words__reads(rt_slice l1, uint64_t l2, uint8_t l3, rt_slice l4, uint64_t l5)
+static RT_HERE struct emit__Put emit__words__reads(rt_slice l1, uint64_t l2, uint8_t l3, rt_slice l4, uint64_t l5)
 {
     struct emit__Put l0;
     uint64_t l6;
@@ -6052,7 +6174,7 @@ static inline void emit__words__store(rt_slice l1, uint64_t l2, uint64_t l3)
     return;
 }
 
-static inline struct emit__Put emit__words__target(rt_slice l1, uint64_t l2, rt_slice l3, uint64_t l4)
+static RT_HERE struct emit__Put emit__words__target(rt_slice l1, uint64_t l2, rt_slice l3, uint64_t l4)
 {
     struct emit__Put l0;
     uint8_t l5;
@@ -6105,7 +6227,7 @@ static inline struct emit__Put emit__words__target(rt_slice l1, uint64_t l2, rt_
     return l0;
 }
 
-static inline struct emit__Put emit_steps__of_struct(rt_slice l1, rt_slice l2, struct emit__Put l3, rt_slice l4)
+static RT_HERE struct emit__Put emit_steps__of_struct(rt_slice l1, rt_slice l2, struct emit__Put l3, rt_slice l4)
 {
     struct emit__Put l0;
     uint64_t l5;
@@ -6141,7 +6263,8 @@ static inline struct emit__Put emit_steps__of_struct(rt_slice l1, rt_slice l2, s
         l6 = (uint8_t)((uint32_t)l6 - (uint32_t)UINT8_C(1));
     }
 end1:;
-    l0 = l7;
+    l0.f0 = l7.f0;
+    l0.f1 = l7.f1;
     return l0;
 }
 
@@ -6171,18 +6294,38 @@ end1:;
     return;
 }
 
-static inline struct engine__Machine engine__Machine__advance(struct engine__Machine l1, rt_slice l2, rt_slice l3, rt_slice l4)
+static RT_HERE struct engine__Machine engine__Machine__advance(struct engine__Machine l1, rt_slice l2, rt_slice l3, rt_slice l4)
 {
     struct engine__Machine l0;
     struct layout__Numbers l5;
-    uint8_t *l6;
-    rt_slice l7;
-    l5 = l1.f0;
-    l6 = (uint8_t *)&(*(uint16_t *)l4.p);
-    l7.p = l6;
-    l7.n = l4.n;
-    l1.f0 = scheduler__schedule__advance(l5, l2, l3, l7);
-    l0 = l1;
+    struct layout__Numbers l6;
+    uint8_t *l7;
+    rt_slice l8;
+    l5.f0 = l1.f0.f0;
+    l5.f1 = l1.f0.f1;
+    l5.f2 = l1.f0.f2;
+    l5.f3 = l1.f0.f3;
+    l5.f4 = l1.f0.f4;
+    l5.f5 = l1.f0.f5;
+    l5.f6 = l1.f0.f6;
+    l7 = (uint8_t *)&(*(uint16_t *)l4.p);
+    l8.p = l7;
+    l8.n = l4.n;
+    l6 = scheduler__schedule__advance(l5, l2, l3, l8);
+    l1.f0.f0 = l6.f0;
+    l1.f0.f1 = l6.f1;
+    l1.f0.f2 = l6.f2;
+    l1.f0.f3 = l6.f3;
+    l1.f0.f4 = l6.f4;
+    l1.f0.f5 = l6.f5;
+    l1.f0.f6 = l6.f6;
+    l0.f0.f0 = l1.f0.f0;
+    l0.f0.f1 = l1.f0.f1;
+    l0.f0.f2 = l1.f0.f2;
+    l0.f0.f3 = l1.f0.f3;
+    l0.f0.f4 = l1.f0.f4;
+    l0.f0.f5 = l1.f0.f5;
+    l0.f0.f6 = l1.f0.f6;
     return l0;
 }
 
@@ -6204,11 +6347,18 @@ static inline struct engine__Machine engine__Machine__command(struct engine__Mac
     uint64_t l19;
     uint8_t *l20;
     rt_slice l21;
+    struct layout__Numbers l22;
     l11 = (uint8_t *)&(*(uint16_t *)l4.p);
     l12.p = l11;
     l12.n = l4.n;
     l7 = layout__head(l12, l6, UINT64_C(2));
-    l8 = l1.f0;
+    l8.f0 = l1.f0.f0;
+    l8.f1 = l1.f0.f1;
+    l8.f2 = l1.f0.f2;
+    l8.f3 = l1.f0.f3;
+    l8.f4 = l1.f0.f4;
+    l8.f5 = l1.f0.f5;
+    l8.f6 = l1.f0.f6;
     l13 = (uint8_t *)&(*(uint16_t *)l4.p);
     l14.p = l13;
     l14.n = l4.n;
@@ -6223,13 +6373,27 @@ static inline struct engine__Machine engine__Machine__command(struct engine__Mac
     l20 = (uint8_t *)&(*(uint16_t *)l4.p);
     l21.p = l20;
     l21.n = l4.n;
-    l10.f5 = engine__left_holding(l21, l6, l8.f5);
-    l1.f0 = engine__turned(l10, l6);
-    l0 = l1;
+    l17 = engine__left_holding(l21, l6, l8.f5);
+    l10.f5 = l17;
+    l22 = engine__turned(l10, l6);
+    l1.f0.f0 = l22.f0;
+    l1.f0.f1 = l22.f1;
+    l1.f0.f2 = l22.f2;
+    l1.f0.f3 = l22.f3;
+    l1.f0.f4 = l22.f4;
+    l1.f0.f5 = l22.f5;
+    l1.f0.f6 = l22.f6;
+    l0.f0.f0 = l1.f0.f0;
+    l0.f0.f1 = l1.f0.f1;
+    l0.f0.f2 = l1.f0.f2;
+    l0.f0.f3 = l1.f0.f3;
+    l0.f0.f4 = l1.f0.f4;
+    l0.f0.f5 = l1.f0.f5;
+    l0.f0.f6 = l1.f0.f6;
     return l0;
 }
 
-static inline struct layout__Numbers engine__after(struct layout__Numbers l1, struct execute_stack__Acted l2)
+static RT_HERE struct layout__Numbers engine__after(struct layout__Numbers l1, struct execute_stack__Acted l2)
 {
     struct layout__Numbers l0;
     struct layout__Numbers l3;
@@ -6237,7 +6401,13 @@ static inline struct layout__Numbers engine__after(struct layout__Numbers l1, st
     uint64_t l5;
     uint8_t l6;
     uint64_t l7;
-    l3 = l1;
+    l3.f0 = l1.f0;
+    l3.f1 = l1.f1;
+    l3.f2 = l1.f2;
+    l3.f3 = l1.f3;
+    l3.f4 = l1.f4;
+    l3.f5 = l1.f5;
+    l3.f6 = l1.f6;
     switch (l2.tag) {
         case UINT8_C(0): {
             break;
@@ -6260,7 +6430,13 @@ static inline struct layout__Numbers engine__after(struct layout__Numbers l1, st
             break;
         }
     }
-    l0 = l3;
+    l0.f0 = l3.f0;
+    l0.f1 = l3.f1;
+    l0.f2 = l3.f2;
+    l0.f3 = l3.f3;
+    l0.f4 = l3.f4;
+    l0.f5 = l3.f5;
+    l0.f6 = l3.f6;
     return l0;
 }
 
@@ -6277,19 +6453,37 @@ static inline uint64_t engine__left_holding(rt_slice l1, uint64_t l2, uint64_t l
     return l0;
 }
 
-static inline struct layout__Numbers engine__turned(struct layout__Numbers l1, uint64_t l2)
+static RT_HERE struct layout__Numbers engine__turned(struct layout__Numbers l1, uint64_t l2)
 {
     struct layout__Numbers l0;
     struct layout__Numbers l3;
     uint8_t l4;
     l4 = (uint8_t)(l1.f4 != UINT8_C(0));
     if (l4) {
-        l0 = l1;
+        l0.f0 = l1.f0;
+        l0.f1 = l1.f1;
+        l0.f2 = l1.f2;
+        l0.f3 = l1.f3;
+        l0.f4 = l1.f4;
+        l0.f5 = l1.f5;
+        l0.f6 = l1.f6;
         return l0;
     }
-    l3 = l1;
+    l3.f0 = l1.f0;
+    l3.f1 = l1.f1;
+    l3.f2 = l1.f2;
+    l3.f3 = l1.f3;
+    l3.f4 = l1.f4;
+    l3.f5 = l1.f5;
+    l3.f6 = l1.f6;
     l3.f6 = (uint64_t)((uint64_t)l2 + (uint64_t)UINT64_C(1));
-    l0 = l3;
+    l0.f0 = l3.f0;
+    l0.f1 = l3.f1;
+    l0.f2 = l3.f2;
+    l0.f3 = l3.f3;
+    l0.f4 = l3.f4;
+    l0.f5 = l3.f5;
+    l0.f6 = l3.f6;
     return l0;
 }
 
@@ -7031,7 +7225,7 @@ static inline uint64_t holders__holder_of(struct rt_array_holders__Record_256 l1
     return l0;
 }
 
-static inline struct rt_array_holders__Record_256 holders__records(rt_slice l1, uint64_t l2)
+static RT_HERE struct rt_array_holders__Record_256 holders__records(rt_slice l1, uint64_t l2)
 {
     struct rt_array_holders__Record_256 l0;
     struct rt_array_holders__Record_256 l3;
@@ -7055,7 +7249,7 @@ static inline struct rt_array_holders__Record_256 holders__records(rt_slice l1, 
         l8.f0 = l5;
         l9 = (uint8_t *)&l3;
         l10 = l9 + (size_t)l4;
-        (*(struct holders__Record *)l10) = l8;
+        (*(struct holders__Record *)l10).f0 = l8.f0;
         l4 = (uint64_t)((uint64_t)l4 + (uint64_t)UINT64_C(1));
     }
 end1:;
@@ -7063,80 +7257,114 @@ end1:;
     return l0;
 }
 
-static inline struct engine__Machine interpreter__moving__settle(struct engine__Machine l1, rt_slice l2, rt_slice l3, rt_slice l4)
+static RT_HERE struct engine__Machine interpreter__moving__settle(struct engine__Machine l1, rt_slice l2, rt_slice l3, rt_slice l4)
 {
     struct engine__Machine l0;
     struct engine__Machine l5;
     uint64_t l6;
     uint8_t l7;
-    uint8_t l8;
-    uint64_t l9;
-    uint8_t *l10;
-    uint64_t l11;
-    uint8_t *l12;
-    rt_slice l13;
-    l5 = l1;
+    struct layout__Numbers l8;
+    uint8_t l9;
+    uint64_t l10;
+    uint8_t *l11;
+    uint64_t l12;
+    uint8_t *l13;
+    rt_slice l14;
+    l5.f0.f0 = l1.f0.f0;
+    l5.f0.f1 = l1.f0.f1;
+    l5.f0.f2 = l1.f0.f2;
+    l5.f0.f3 = l1.f0.f3;
+    l5.f0.f4 = l1.f0.f4;
+    l5.f0.f5 = l1.f0.f5;
+    l5.f0.f6 = l1.f0.f6;
     for (;;) {
-        l7 = layout__due(l5.f0);
-        l8 = (uint8_t)!l7;
-        if (l8) {
+        l8.f0 = l5.f0.f0;
+        l8.f1 = l5.f0.f1;
+        l8.f2 = l5.f0.f2;
+        l8.f3 = l5.f0.f3;
+        l8.f4 = l5.f0.f4;
+        l8.f5 = l5.f0.f5;
+        l8.f6 = l5.f0.f6;
+        l7 = layout__due(l8);
+        l9 = (uint8_t)!l7;
+        if (l9) {
         } else {
             goto end1;
         }
         l6 = l5.f0.f1;
-        l9 = (uint64_t)((uint64_t)l6 * (uint64_t)UINT64_C(8));
-        l10 = l2.p + (size_t)l9;
-        l11 = (*(uint64_t *)l10);
-        l7 = (uint8_t)(l11 == UINT64_C(1025));
+        l10 = (uint64_t)((uint64_t)l6 * (uint64_t)UINT64_C(8));
+        l11 = l2.p + (size_t)l10;
+        l12 = (*(uint64_t *)l11);
+        l7 = (uint8_t)(l12 == UINT64_C(1025));
         if (l7) {
-            l0 = l5;
+            l0.f0.f0 = l5.f0.f0;
+            l0.f0.f1 = l5.f0.f1;
+            l0.f0.f2 = l5.f0.f2;
+            l0.f0.f3 = l5.f0.f3;
+            l0.f0.f4 = l5.f0.f4;
+            l0.f0.f5 = l5.f0.f5;
+            l0.f0.f6 = l5.f0.f6;
             return l0;
         }
-        l12 = (uint8_t *)&(*(uint16_t *)l4.p);
-        l13.p = l12;
-        l13.n = l4.n;
-        l5 = engine__Machine__advance(l5, l2, l3, l13);
+        l13 = (uint8_t *)&(*(uint16_t *)l4.p);
+        l14.p = l13;
+        l14.n = l4.n;
+        l5 = engine__Machine__advance(l5, l2, l3, l14);
     }
 end1:;
-    l0 = l5;
+    l0.f0.f0 = l5.f0.f0;
+    l0.f0.f1 = l5.f0.f1;
+    l0.f0.f2 = l5.f0.f2;
+    l0.f0.f3 = l5.f0.f3;
+    l0.f0.f4 = l5.f0.f4;
+    l0.f0.f5 = l5.f0.f5;
+    l0.f0.f6 = l5.f0.f6;
     return l0;
 }
 
-static inline struct interpreter__turns__Going interpreter__turns__going_at(struct engine__Machine l1, uint64_t l2, struct holders__Record l3, rt_slice l4)
+static RT_HERE struct interpreter__turns__Going interpreter__turns__going_at(struct engine__Machine l1, uint64_t l2, struct holders__Record l3, rt_slice l4)
 {
     struct interpreter__turns__Going l0;
     uint64_t l5;
     uint8_t l6;
-    uint8_t l7;
-    uint64_t l8;
-    uint8_t *l9;
-    uint8_t l10;
-    l6 = layout__due(l1.f0);
-    l7 = (uint8_t)!l6;
-    if (l7) {
+    struct layout__Numbers l7;
+    uint8_t l8;
+    uint64_t l9;
+    uint8_t *l10;
+    uint8_t l11;
+    l7.f0 = l1.f0.f0;
+    l7.f1 = l1.f0.f1;
+    l7.f2 = l1.f0.f2;
+    l7.f3 = l1.f0.f3;
+    l7.f4 = l1.f0.f4;
+    l7.f5 = l1.f0.f5;
+    l7.f6 = l1.f0.f6;
+    l6 = layout__due(l7);
+    l8 = (uint8_t)!l6;
+    if (l8) {
         l0 = interpreter__turns__resting(l1, l2, l3, l1.f0.f4);
         return l0;
     }
-    l8 = l4.n;
-    l6 = (uint8_t)(l8 <= l2);
+    l9 = l4.n;
+    l6 = (uint8_t)(l9 <= l2);
     if (l6) {
         l0 = interpreter__turns__resting(l1, l2, l3, UINT8_C(33));
         return l0;
     }
-    l9 = l4.p + (size_t)l2;
-    l10 = (*(uint8_t *)l9);
-    l5 = (uint64_t)l10;
-    l8 = (uint64_t)((uint64_t)l5 % (uint64_t)l1.f0.f5);
+    l10 = l4.p + (size_t)l2;
+    l11 = (*(uint8_t *)l10);
+    l5 = (uint64_t)l11;
+    l9 = (uint64_t)((uint64_t)l5 % (uint64_t)l1.f0.f5);
     l0.f0 = l1;
     l0.f1 = l2;
     l0.f2 = UINT8_C(0);
     l0.f3 = 1;
-    l0.f4 = l8;
+    l0.f4 = l9;
     l0.f5 = l3;
     return l0;
 }
 
-static inline struct interpreter__turns__Going interpreter__turns__resting(struct engine__Machine l1, uint64_t l2, struct holders__Record l3, uint8_t l4)
+static RT_HERE struct interpreter__turns__Going interpreter__turns__resting(struct engine__Machine l1, uint64_t l2, struct holders__Record l3, uint8_t l4)
 {
     struct interpreter__turns__Going l0;
     l0.f0 = l1;
@@ -7148,7 +7376,7 @@ static inline struct interpreter__turns__Going interpreter__turns__resting(struc
     return l0;
 }
 
-static inline struct interpreter__turns__Ran interpreter__turns__run(struct engine__Machine l1, rt_slice l2, rt_slice l3, rt_slice l4, rt_slice l5, rt_slice l6, rt_slice l7, rt_slice l8)
+static RT_HERE struct interpreter__turns__Ran interpreter__turns__run(struct engine__Machine l1, rt_slice l2, rt_slice l3, rt_slice l4, rt_slice l5, rt_slice l6, rt_slice l7, rt_slice l8)
 {
     struct interpreter__turns__Ran l0;
     struct holders__Record l9;
@@ -7194,7 +7422,13 @@ static inline struct interpreter__turns__Ran interpreter__turns__run(struct engi
         l11 = interpreter__turns__take_turns(l11, l12, l2, l3, l22, l24, l8);
         l18 = (uint8_t)(l11.f2 == UINT8_C(0));
         if (l18) {
-            l13 = l11.f0;
+            l13.f0.f0 = l11.f0.f0.f0;
+            l13.f0.f1 = l11.f0.f0.f1;
+            l13.f0.f2 = l11.f0.f0.f2;
+            l13.f0.f3 = l11.f0.f0.f3;
+            l13.f0.f4 = l11.f0.f0.f4;
+            l13.f0.f5 = l11.f0.f0.f5;
+            l13.f0.f6 = l11.f0.f0.f6;
             l25 = (uint8_t *)&(*(uint16_t *)l6.p);
             l26.p = l25;
             l26.n = l6.n;
@@ -7203,14 +7437,20 @@ static inline struct interpreter__turns__Ran interpreter__turns__run(struct engi
         }
     }
 end1:;
-    l15 = l11.f0;
+    l15.f0.f0 = l11.f0.f0.f0;
+    l15.f0.f1 = l11.f0.f0.f1;
+    l15.f0.f2 = l11.f0.f0.f2;
+    l15.f0.f3 = l11.f0.f0.f3;
+    l15.f0.f4 = l11.f0.f0.f4;
+    l15.f0.f5 = l11.f0.f0.f5;
+    l15.f0.f6 = l11.f0.f0.f6;
     l0.f0 = l15;
     l0.f1 = l11.f2;
     l0.f2 = l11.f1;
     return l0;
 }
 
-static inline struct interpreter__turns__Going interpreter__turns__take_turns(struct interpreter__turns__Going l1, struct rt_array_holders__Record_256 l2, rt_slice l3, rt_slice l4, rt_slice l5, rt_slice l6, rt_slice l7)
+static RT_HERE struct interpreter__turns__Going interpreter__turns__take_turns(struct interpreter__turns__Going l1, struct rt_array_holders__Record_256 l2, rt_slice l3, rt_slice l4, rt_slice l5, rt_slice l6, rt_slice l7)
 {
     struct interpreter__turns__Going l0;
     struct interpreter__turns__Going l8;
@@ -7223,9 +7463,21 @@ static inline struct interpreter__turns__Going interpreter__turns__take_turns(st
     rt_slice l15;
     uint8_t *l16;
     rt_slice l17;
-    uint8_t *l18;
+    struct holders__Record l18;
     uint8_t *l19;
-    l8 = l1;
+    uint8_t *l20;
+    l8.f0.f0.f0 = l1.f0.f0.f0;
+    l8.f0.f0.f1 = l1.f0.f0.f1;
+    l8.f0.f0.f2 = l1.f0.f0.f2;
+    l8.f0.f0.f3 = l1.f0.f0.f3;
+    l8.f0.f0.f4 = l1.f0.f0.f4;
+    l8.f0.f0.f5 = l1.f0.f0.f5;
+    l8.f0.f0.f6 = l1.f0.f0.f6;
+    l8.f1 = l1.f1;
+    l8.f2 = l1.f2;
+    l8.f3 = l1.f3;
+    l8.f4 = l1.f4;
+    l8.f5.f0 = l1.f5.f0;
     l9 = l2;
     for (;;) {
         l11 = l8.f3;
@@ -7244,16 +7496,28 @@ static inline struct interpreter__turns__Going interpreter__turns__take_turns(st
         l17.p = l16;
         l17.n = l6.n;
         l8 = interpreter__turns__turn(l8, l10, l3, l4, l15, l17, l7);
-        l18 = (uint8_t *)&l9;
-        l19 = l18 + (size_t)l10;
-        (*(struct holders__Record *)l19) = l8.f5;
+        l18.f0 = l8.f5.f0;
+        l19 = (uint8_t *)&l9;
+        l20 = l19 + (size_t)l10;
+        (*(struct holders__Record *)l20).f0 = l18.f0;
     }
 end1:;
-    l0 = l8;
+    l0.f0.f0.f0 = l8.f0.f0.f0;
+    l0.f0.f0.f1 = l8.f0.f0.f1;
+    l0.f0.f0.f2 = l8.f0.f0.f2;
+    l0.f0.f0.f3 = l8.f0.f0.f3;
+    l0.f0.f0.f4 = l8.f0.f0.f4;
+    l0.f0.f0.f5 = l8.f0.f0.f5;
+    l0.f0.f0.f6 = l8.f0.f0.f6;
+    l0.f1 = l8.f1;
+    l0.f2 = l8.f2;
+    l0.f3 = l8.f3;
+    l0.f4 = l8.f4;
+    l0.f5.f0 = l8.f5.f0;
     return l0;
 }
 
-static inline struct interpreter__turns__Going interpreter__turns__turn(struct interpreter__turns__Going l1, uint64_t l2, rt_slice l3, rt_slice l4, rt_slice l5, rt_slice l6, rt_slice l7)
+static RT_HERE struct interpreter__turns__Going interpreter__turns__turn(struct interpreter__turns__Going l1, uint64_t l2, rt_slice l3, rt_slice l4, rt_slice l5, rt_slice l6, rt_slice l7)
 {
     struct interpreter__turns__Going l0;
     struct engine__Machine l8;
@@ -7265,11 +7529,18 @@ static inline struct interpreter__turns__Going interpreter__turns__turn(struct i
     uint8_t *l14;
     rt_slice l15;
     uint8_t l16;
-    uint8_t *l17;
-    rt_slice l18;
-    uint64_t l19;
-    struct holders__Record l20;
-    l8 = l1.f0;
+    struct holders__Record l17;
+    uint8_t *l18;
+    rt_slice l19;
+    uint64_t l20;
+    struct holders__Record l21;
+    l8.f0.f0 = l1.f0.f0.f0;
+    l8.f0.f1 = l1.f0.f0.f1;
+    l8.f0.f2 = l1.f0.f0.f2;
+    l8.f0.f3 = l1.f0.f0.f3;
+    l8.f0.f4 = l1.f0.f0.f4;
+    l8.f0.f5 = l1.f0.f0.f5;
+    l8.f0.f6 = l1.f0.f0.f6;
     l12 = (uint8_t *)&(*(uint16_t *)l5.p);
     l13.p = l12;
     l13.n = l5.n;
@@ -7280,16 +7551,17 @@ static inline struct interpreter__turns__Going interpreter__turns__turn(struct i
     l10 = l9.f0.f4;
     l16 = (uint8_t)(l10 != UINT8_C(0));
     if (l16) {
-        l0 = interpreter__turns__resting(l9, l1.f1, l1.f5, l10);
+        l17.f0 = l1.f5.f0;
+        l0 = interpreter__turns__resting(l9, l1.f1, l17, l10);
         return l0;
     }
-    l17 = (uint8_t *)&(*(uint16_t *)l5.p);
-    l18.p = l17;
-    l18.n = l5.n;
-    l11 = layout__holds(l18, l2);
-    l19 = (uint64_t)((uint64_t)l1.f1 + (uint64_t)UINT64_C(1));
-    l20.f0 = l11;
-    l0 = interpreter__turns__going_at(l9, l19, l20, l7);
+    l18 = (uint8_t *)&(*(uint16_t *)l5.p);
+    l19.p = l18;
+    l19.n = l5.n;
+    l11 = layout__holds(l19, l2);
+    l20 = (uint64_t)((uint64_t)l1.f1 + (uint64_t)UINT64_C(1));
+    l21.f0 = l11;
+    l0 = interpreter__turns__going_at(l9, l20, l21, l7);
     return l0;
 }
 
@@ -7393,7 +7665,7 @@ static inline struct judge__Facts judging__expression__appended(uint8_t l1, uint
     return l0;
 }
 
-static inline struct judge__Facts judging__expression__combined(uint8_t l1, struct judge__Facts l2, struct judge__Facts l3)
+static RT_HERE struct judge__Facts judging__expression__combined(uint8_t l1, struct judge__Facts l2, struct judge__Facts l3)
 {
     struct judge__Facts l0;
     uint64_t l4;
@@ -7466,7 +7738,7 @@ static inline uint64_t judging__expression__higher(uint64_t l1, uint64_t l2)
     return l0;
 }
 
-static inline struct judge__Facts judging__expression__negated(struct judge__Facts l1)
+static RT_HERE struct judge__Facts judging__expression__negated(struct judge__Facts l1)
 {
     struct judge__Facts l0;
     uint64_t l2;
@@ -7492,7 +7764,7 @@ static inline struct judge__Facts judging__expression__no_args(void)
     return l0;
 }
 
-static inline struct judge__Facts judging__expression__pushed(uint8_t l1)
+static RT_HERE struct judge__Facts judging__expression__pushed(uint8_t l1)
 {
     struct judge__Facts l0;
     l0.f0 = UINT64_C(1);
@@ -7525,7 +7797,7 @@ static inline uint8_t judging__expression__takes(uint8_t l1, uint8_t l2, uint8_t
     return l0;
 }
 
-static inline struct judge__Facts judging__expression__travelled(uint8_t l1, struct judge__Judged l2)
+static RT_HERE struct judge__Facts judging__expression__travelled(uint8_t l1, struct judge__Judged l2)
 {
     struct judge__Facts l0;
     uint64_t l3;
@@ -7600,7 +7872,8 @@ static inline struct judge__Judged judging__path__lead_by(rt_slice l1, rt_slice 
     uint8_t l6;
     l5 = (uint8_t)(l3.f0 != UINT8_C(0));
     if (l5) {
-        l0 = l3;
+        l0.f0 = l3.f0;
+        l0.f1 = l3.f1;
         return l0;
     }
     l5 = (uint8_t)(l3.f1 < UINT8_C(16));
@@ -7703,7 +7976,7 @@ static inline uint8_t judging__path__type_at(rt_slice l1, uint8_t l2, uint8_t l3
     return l0;
 }
 
-static inline struct judge__Done judging__statement__branched(struct judge__Scope l1, struct judge__Facts l2, struct judge__Done l3)
+static RT_HERE struct judge__Done judging__statement__branched(struct judge__Scope l1, struct judge__Facts l2, struct judge__Done l3)
 {
     struct judge__Done l0;
     uint8_t l4;
@@ -7716,7 +7989,8 @@ static inline struct judge__Done judging__statement__branched(struct judge__Scop
     uint8_t l11;
     l7 = (uint8_t)(l2.f3 == UINT8_C(2));
     l4 = judging__fault__demand(l2.f2, l7);
-    l5 = l3.f4;
+    l5.f0 = l3.f4.f0;
+    l5.f1 = l3.f4.f1;
     l6.f0 = l1.f0;
     l6.f1 = l5.f1;
     l8 = (uint64_t)((uint64_t)l2.f0 + (uint64_t)l3.f0);
@@ -7731,7 +8005,7 @@ static inline struct judge__Done judging__statement__branched(struct judge__Scop
     return l0;
 }
 
-static inline struct judge__Done judging__statement__declared(struct judge__Scope l1, uint8_t l2, uint8_t l3, struct judge__Facts l4)
+static RT_HERE struct judge__Done judging__statement__declared(struct judge__Scope l1, uint8_t l2, uint8_t l3, struct judge__Facts l4)
 {
     struct judge__Done l0;
     uint8_t l5;
@@ -7774,7 +8048,8 @@ static inline struct judge__Done judging__statement__followed(struct judge__Done
     uint64_t l6;
     uint64_t l7;
     uint8_t l8;
-    l3 = l2.f4;
+    l3.f0 = l2.f4.f0;
+    l3.f1 = l2.f4.f1;
     l4 = (uint64_t)((uint64_t)l1.f0 + (uint64_t)l2.f0);
     l6 = (uint64_t)((uint64_t)l1.f2 + (uint64_t)l2.f1);
     l5 = judging__expression__higher(l1.f1, l6);
@@ -7799,7 +8074,7 @@ static inline struct judge__Done judging__statement__nothing(struct judge__Scope
     return l0;
 }
 
-static inline struct judge__Done judging__statement__updated(struct judge__Scope l1, uint8_t l2, struct judge__Judged l3, struct judge__Facts l4)
+static RT_HERE struct judge__Done judging__statement__updated(struct judge__Scope l1, uint8_t l2, struct judge__Judged l3, struct judge__Facts l4)
 {
     struct judge__Done l0;
     uint8_t l5;
@@ -7870,7 +8145,7 @@ static inline uint8_t layout__due(struct layout__Numbers l1)
     return l0;
 }
 
-static inline struct layout__Numbers layout__fresh(uint64_t l1)
+static RT_HERE struct layout__Numbers layout__fresh(uint64_t l1)
 {
     struct layout__Numbers l0;
     l0.f0 = l1;
@@ -8301,7 +8576,7 @@ static inline uint8_t lexer__bytes__signed(uint8_t l1, uint8_t l2)
     return l0;
 }
 
-static inline struct tokens__Spot lexer__comment(uint64_t l1)
+static RT_HERE struct tokens__Spot lexer__comment(uint64_t l1)
 {
     struct tokens__Spot l0;
     uint8_t l2;
@@ -8318,7 +8593,7 @@ static inline struct tokens__Spot lexer__comment(uint64_t l1)
     return l0;
 }
 
-static inline struct tokens__Spot lexer__followed(uint8_t l1, uint8_t l2, uint8_t l3, uint8_t l4)
+static RT_HERE struct tokens__Spot lexer__followed(uint8_t l1, uint8_t l2, uint8_t l3, uint8_t l4)
 {
     struct tokens__Spot l0;
     uint8_t l5;
@@ -8591,7 +8866,7 @@ end1:;
     return l0;
 }
 
-static inline struct tokens__Spot lexer__longer(rt_slice l1, uint64_t l2)
+static RT_HERE struct tokens__Spot lexer__longer(rt_slice l1, uint64_t l2)
 {
     struct tokens__Spot l0;
     uint8_t l3;
@@ -8666,7 +8941,7 @@ end1:;
     return l0;
 }
 
-static inline struct tokens__Spot lexer__name(rt_slice l1, uint64_t l2)
+static RT_HERE struct tokens__Spot lexer__name(rt_slice l1, uint64_t l2)
 {
     struct tokens__Spot l0;
     uint64_t l3;
@@ -8691,7 +8966,7 @@ static inline struct tokens__Spot lexer__name(rt_slice l1, uint64_t l2)
     return l0;
 }
 
-static inline struct tokens__Spot lexer__nat(rt_slice l1, uint64_t l2)
+static RT_HERE struct tokens__Spot lexer__nat(rt_slice l1, uint64_t l2)
 {
     struct tokens__Spot l0;
     uint64_t l3;
@@ -8714,7 +8989,7 @@ static inline struct tokens__Spot lexer__nat(rt_slice l1, uint64_t l2)
     return l0;
 }
 
-static inline struct tokens__Spot lexer__other(rt_slice l1, uint64_t l2)
+static RT_HERE struct tokens__Spot lexer__other(rt_slice l1, uint64_t l2)
 {
     struct tokens__Spot l0;
     uint8_t l3;
@@ -8753,7 +9028,7 @@ static inline struct tokens__Spot lexer__other(rt_slice l1, uint64_t l2)
     return l0;
 }
 
-static inline struct tokens__Spot lexer__sign(uint8_t l1, uint8_t l2)
+static RT_HERE struct tokens__Spot lexer__sign(uint8_t l1, uint8_t l2)
 {
     struct tokens__Spot l0;
     struct tokens__Spot l3;
@@ -8869,7 +9144,7 @@ static inline struct tokens__Spot lexer__sign(uint8_t l1, uint8_t l2)
     return l0;
 }
 
-static inline struct tokens__Spot lexer__token(rt_slice l1, uint64_t l2)
+static RT_HERE struct tokens__Spot lexer__token(rt_slice l1, uint64_t l2)
 {
     struct tokens__Spot l0;
     uint8_t l3;
@@ -8890,113 +9165,131 @@ static inline struct tokens__Spot lexer__token(rt_slice l1, uint64_t l2)
     return l0;
 }
 
-static const struct rt_array_uint8_4 lexer__words__kind__l2 = { { UINT8_C(66), UINT8_C(111), UINT8_C(111), UINT8_C(108) } };
-static const struct rt_array_uint8_3 lexer__words__kind__l3 = { { UINT8_C(70), UINT8_C(105), UINT8_C(120) } };
-static const struct rt_array_uint8_3 lexer__words__kind__l4 = { { UINT8_C(73), UINT8_C(110), UINT8_C(116) } };
-static const struct rt_array_uint8_3 lexer__words__kind__l5 = { { UINT8_C(78), UINT8_C(97), UINT8_C(116) } };
-static const struct rt_array_uint8_6 lexer__words__kind__l6 = { { UINT8_C(83), UINT8_C(116), UINT8_C(114), UINT8_C(105), UINT8_C(110), UINT8_C(103) } };
-static const struct rt_array_uint8_5 lexer__words__kind__l7 = { { UINT8_C(102), UINT8_C(97), UINT8_C(108), UINT8_C(115), UINT8_C(101) } };
-static const struct rt_array_uint8_2 lexer__words__kind__l8 = { { UINT8_C(105), UINT8_C(102) } };
-static const struct rt_array_uint8_4 lexer__words__kind__l9 = { { UINT8_C(110), UINT8_C(117), UINT8_C(108), UINT8_C(108) } };
-static const struct rt_array_uint8_6 lexer__words__kind__l10 = { { UINT8_C(115), UINT8_C(116), UINT8_C(114), UINT8_C(117), UINT8_C(99), UINT8_C(116) } };
+static const struct rt_array_uint8_4 lexer__words__kind__l31 = { { UINT8_C(66), UINT8_C(111), UINT8_C(111), UINT8_C(108) } };
+static const struct rt_array_uint8_3 lexer__words__kind__l32 = { { UINT8_C(70), UINT8_C(105), UINT8_C(120) } };
+static const struct rt_array_uint8_3 lexer__words__kind__l33 = { { UINT8_C(73), UINT8_C(110), UINT8_C(116) } };
+static const struct rt_array_uint8_3 lexer__words__kind__l34 = { { UINT8_C(78), UINT8_C(97), UINT8_C(116) } };
+static const struct rt_array_uint8_6 lexer__words__kind__l35 = { { UINT8_C(83), UINT8_C(116), UINT8_C(114), UINT8_C(105), UINT8_C(110), UINT8_C(103) } };
+static const struct rt_array_uint8_5 lexer__words__kind__l36 = { { UINT8_C(102), UINT8_C(97), UINT8_C(108), UINT8_C(115), UINT8_C(101) } };
+static const struct rt_array_uint8_2 lexer__words__kind__l37 = { { UINT8_C(105), UINT8_C(102) } };
+static const struct rt_array_uint8_4 lexer__words__kind__l38 = { { UINT8_C(110), UINT8_C(117), UINT8_C(108), UINT8_C(108) } };
+static const struct rt_array_uint8_6 lexer__words__kind__l39 = { { UINT8_C(115), UINT8_C(116), UINT8_C(114), UINT8_C(117), UINT8_C(99), UINT8_C(116) } };
 static inline uint8_t lexer__words__kind(rt_slice l1)
 {
     uint8_t l0;
-    uint8_t l11;
-    uint8_t l12;
+    uint8_t l2;
+    uint8_t l3;
+    uint8_t *l4;
+    uint8_t *l5;
+    rt_slice l6;
+    uint8_t *l7;
+    uint8_t *l8;
+    rt_slice l9;
+    uint8_t *l10;
+    uint8_t *l11;
+    rt_slice l12;
     uint8_t *l13;
-    rt_slice l14;
-    uint8_t *l15;
-    rt_slice l16;
+    uint8_t *l14;
+    rt_slice l15;
+    uint8_t *l16;
     uint8_t *l17;
     rt_slice l18;
     uint8_t *l19;
-    rt_slice l20;
-    uint8_t *l21;
-    rt_slice l22;
+    uint8_t *l20;
+    rt_slice l21;
+    uint8_t *l22;
     uint8_t *l23;
     rt_slice l24;
     uint8_t *l25;
-    rt_slice l26;
-    uint8_t *l27;
-    rt_slice l28;
+    uint8_t *l26;
+    rt_slice l27;
+    uint8_t *l28;
     uint8_t *l29;
     rt_slice l30;
-    l11 = lexer__bytes__byte(l1, UINT64_C(0));
-    switch (l11) {
+    l2 = lexer__bytes__byte(l1, UINT64_C(0));
+    switch (l2) {
         case UINT8_C(66): {
-            l13 = (uint8_t *)&lexer__words__kind__l2;
-            l14.p = l13;
-            l14.n = UINT64_C(4);
-            l12 = lexer__words__only(l14, UINT8_C(9), l1);
+            l4 = (uint8_t *)&lexer__words__kind__l31;
+            l5 = (uint8_t *)&(*(uint8_t *)l4);
+            l6.p = l5;
+            l6.n = UINT64_C(4);
+            l3 = lexer__words__only(l6, UINT8_C(9), l1);
             break;
         }
         case UINT8_C(70): {
-            l15 = (uint8_t *)&lexer__words__kind__l3;
-            l16.p = l15;
-            l16.n = UINT64_C(3);
-            l12 = lexer__words__only(l16, UINT8_C(6), l1);
+            l7 = (uint8_t *)&lexer__words__kind__l32;
+            l8 = (uint8_t *)&(*(uint8_t *)l7);
+            l9.p = l8;
+            l9.n = UINT64_C(3);
+            l3 = lexer__words__only(l9, UINT8_C(6), l1);
             break;
         }
         case UINT8_C(73): {
-            l17 = (uint8_t *)&lexer__words__kind__l4;
-            l18.p = l17;
-            l18.n = UINT64_C(3);
-            l12 = lexer__words__only(l18, UINT8_C(7), l1);
+            l10 = (uint8_t *)&lexer__words__kind__l33;
+            l11 = (uint8_t *)&(*(uint8_t *)l10);
+            l12.p = l11;
+            l12.n = UINT64_C(3);
+            l3 = lexer__words__only(l12, UINT8_C(7), l1);
             break;
         }
         case UINT8_C(78): {
-            l19 = (uint8_t *)&lexer__words__kind__l5;
-            l20.p = l19;
-            l20.n = UINT64_C(3);
-            l12 = lexer__words__only(l20, UINT8_C(8), l1);
+            l13 = (uint8_t *)&lexer__words__kind__l34;
+            l14 = (uint8_t *)&(*(uint8_t *)l13);
+            l15.p = l14;
+            l15.n = UINT64_C(3);
+            l3 = lexer__words__only(l15, UINT8_C(8), l1);
             break;
         }
         case UINT8_C(83): {
-            l21 = (uint8_t *)&lexer__words__kind__l6;
-            l22.p = l21;
-            l22.n = UINT64_C(6);
-            l12 = lexer__words__only(l22, UINT8_C(10), l1);
+            l16 = (uint8_t *)&lexer__words__kind__l35;
+            l17 = (uint8_t *)&(*(uint8_t *)l16);
+            l18.p = l17;
+            l18.n = UINT64_C(6);
+            l3 = lexer__words__only(l18, UINT8_C(10), l1);
             break;
         }
         case UINT8_C(102): {
-            l23 = (uint8_t *)&lexer__words__kind__l7;
-            l24.p = l23;
-            l24.n = UINT64_C(5);
-            l12 = lexer__words__only(l24, UINT8_C(12), l1);
+            l19 = (uint8_t *)&lexer__words__kind__l36;
+            l20 = (uint8_t *)&(*(uint8_t *)l19);
+            l21.p = l20;
+            l21.n = UINT64_C(5);
+            l3 = lexer__words__only(l21, UINT8_C(12), l1);
             break;
         }
         case UINT8_C(105): {
-            l25 = (uint8_t *)&lexer__words__kind__l8;
-            l26.p = l25;
-            l26.n = UINT64_C(2);
-            l12 = lexer__words__only(l26, UINT8_C(2), l1);
+            l22 = (uint8_t *)&lexer__words__kind__l37;
+            l23 = (uint8_t *)&(*(uint8_t *)l22);
+            l24.p = l23;
+            l24.n = UINT64_C(2);
+            l3 = lexer__words__only(l24, UINT8_C(2), l1);
             break;
         }
         case UINT8_C(110): {
-            l27 = (uint8_t *)&lexer__words__kind__l9;
-            l28.p = l27;
-            l28.n = UINT64_C(4);
-            l12 = lexer__words__only(l28, UINT8_C(4), l1);
+            l25 = (uint8_t *)&lexer__words__kind__l38;
+            l26 = (uint8_t *)&(*(uint8_t *)l25);
+            l27.p = l26;
+            l27.n = UINT64_C(4);
+            l3 = lexer__words__only(l27, UINT8_C(4), l1);
             break;
         }
         case UINT8_C(115): {
-            l29 = (uint8_t *)&lexer__words__kind__l10;
+            l28 = (uint8_t *)&lexer__words__kind__l39;
+            l29 = (uint8_t *)&(*(uint8_t *)l28);
             l30.p = l29;
             l30.n = UINT64_C(6);
-            l12 = lexer__words__only(l30, UINT8_C(1), l1);
+            l3 = lexer__words__only(l30, UINT8_C(1), l1);
             break;
         }
         case UINT8_C(116): {
-            l12 = lexer__words__with_t(l1);
+            l3 = lexer__words__with_t(l1);
             break;
         }
         default: {
-            l12 = UINT8_C(36);
+            l3 = UINT8_C(36);
             break;
         }
     }
-    l0 = l12;
+    l0 = l3;
     return l0;
 }
 
@@ -9057,46 +9350,52 @@ end1:;
     return l0;
 }
 
-static const struct rt_array_uint8_4 lexer__words__with_t__l2 = { { UINT8_C(116), UINT8_C(104), UINT8_C(101), UINT8_C(110) } };
-static const struct rt_array_uint8_4 lexer__words__with_t__l3 = { { UINT8_C(116), UINT8_C(104), UINT8_C(105), UINT8_C(115) } };
-static const struct rt_array_uint8_4 lexer__words__with_t__l4 = { { UINT8_C(116), UINT8_C(114), UINT8_C(117), UINT8_C(101) } };
+static const struct rt_array_uint8_4 lexer__words__with_t__l13 = { { UINT8_C(116), UINT8_C(104), UINT8_C(101), UINT8_C(110) } };
+static const struct rt_array_uint8_4 lexer__words__with_t__l14 = { { UINT8_C(116), UINT8_C(104), UINT8_C(105), UINT8_C(115) } };
+static const struct rt_array_uint8_4 lexer__words__with_t__l15 = { { UINT8_C(116), UINT8_C(114), UINT8_C(117), UINT8_C(101) } };
 static inline uint8_t lexer__words__with_t(rt_slice l1)
 {
     uint8_t l0;
-    uint8_t l5;
-    uint8_t *l6;
-    rt_slice l7;
-    uint8_t l8;
-    uint8_t *l9;
-    rt_slice l10;
+    uint8_t l2;
+    uint8_t *l3;
+    uint8_t *l4;
+    rt_slice l5;
+    uint8_t l6;
+    uint8_t *l7;
+    uint8_t *l8;
+    rt_slice l9;
+    uint8_t *l10;
     uint8_t *l11;
     rt_slice l12;
-    l6 = (uint8_t *)&lexer__words__with_t__l2;
-    l7.p = l6;
-    l7.n = UINT64_C(4);
-    l5 = lexer__words__same(l7, l1);
-    if (l5) {
+    l3 = (uint8_t *)&lexer__words__with_t__l13;
+    l4 = (uint8_t *)&(*(uint8_t *)l3);
+    l5.p = l4;
+    l5.n = UINT64_C(4);
+    l2 = lexer__words__same(l5, l1);
+    if (l2) {
         l0 = UINT8_C(3);
         return l0;
     }
-    l9 = (uint8_t *)&lexer__words__with_t__l3;
-    l10.p = l9;
-    l10.n = UINT64_C(4);
-    l8 = lexer__words__same(l10, l1);
-    if (l8) {
+    l7 = (uint8_t *)&lexer__words__with_t__l14;
+    l8 = (uint8_t *)&(*(uint8_t *)l7);
+    l9.p = l8;
+    l9.n = UINT64_C(4);
+    l6 = lexer__words__same(l9, l1);
+    if (l6) {
         l0 = UINT8_C(5);
         return l0;
     }
-    l11 = (uint8_t *)&lexer__words__with_t__l4;
+    l10 = (uint8_t *)&lexer__words__with_t__l15;
+    l11 = (uint8_t *)&(*(uint8_t *)l10);
     l12.p = l11;
     l12.n = UINT64_C(4);
     l0 = lexer__words__only(l12, UINT8_C(11), l1);
     return l0;
 }
 
-static const struct rt_array_uint8_7 listing__image__listing__l14 = { { UINT8_C(114), UINT8_C(101), UINT8_C(102), UINT8_C(117), UINT8_C(115), UINT8_C(101), UINT8_C(100) } };
-static const struct rt_array_uint8_6 listing__image__listing__l15 = { { UINT8_C(97), UINT8_C(117), UINT8_C(100), UINT8_C(97), UINT8_C(108), UINT8_C(97) } };
-static inline uint64_t listing__image__listing(rt_slice l1, rt_slice l2)
+static const struct rt_array_uint8_7 listing__image__listing__l57 = { { UINT8_C(114), UINT8_C(101), UINT8_C(102), UINT8_C(117), UINT8_C(115), UINT8_C(101), UINT8_C(100) } };
+static const struct rt_array_uint8_6 listing__image__listing__l58 = { { UINT8_C(97), UINT8_C(117), UINT8_C(100), UINT8_C(97), UINT8_C(108), UINT8_C(97) } };
+static RT_APART uint64_t listing__image__listing(rt_slice l1, rt_slice l2)
 {
     uint64_t l0;
     struct rt_array_uint8_32256 l3;
@@ -9110,6 +9409,8 @@ static inline uint64_t listing__image__listing(rt_slice l1, rt_slice l2)
     struct rt_array_uint64_1024 l11;
     struct rt_array_uint64_4 l12;
     uint64_t l13;
+    uint8_t *l14;
+    rt_slice l15;
     uint8_t *l16;
     rt_slice l17;
     uint8_t *l18;
@@ -9119,26 +9420,26 @@ static inline uint64_t listing__image__listing(rt_slice l1, rt_slice l2)
     uint8_t *l22;
     rt_slice l23;
     uint8_t *l24;
-    rt_slice l25;
-    uint8_t *l26;
-    rt_slice l27;
-    struct rt_array_uint64_1 l28;
-    uint8_t l29;
-    uint64_t l30;
-    uint8_t *l31;
-    rt_slice l32;
-    uint8_t *l34;
-    rt_slice l35;
-    uint8_t *l36;
-    rt_slice l37;
-    uint8_t *l38;
-    rt_slice l39;
+    uint8_t *l25;
+    rt_slice l26;
+    struct rt_array_uint64_1 l27;
+    uint8_t l28;
+    uint64_t l29;
+    uint8_t *l30;
+    rt_slice l31;
+    uint8_t *l33;
+    rt_slice l34;
+    uint8_t *l35;
+    rt_slice l36;
+    uint8_t *l37;
+    rt_slice l38;
+    uint64_t l39;
     uint64_t l40;
     uint64_t l41;
     uint64_t l42;
-    uint64_t l43;
-    uint8_t *l44;
-    rt_slice l45;
+    uint8_t *l43;
+    rt_slice l44;
+    uint8_t *l45;
     uint8_t *l46;
     rt_slice l47;
     uint8_t *l48;
@@ -9154,38 +9455,45 @@ static inline uint64_t listing__image__listing(rt_slice l1, rt_slice l2)
     memset(&l4, 0, sizeof l4);
     memset(&l5, 0, sizeof l5);
     memset(&l6, 0, sizeof l6);
-    l16 = (uint8_t *)&l3;
+    l14 = (uint8_t *)&l3;
+    l15.p = l14;
+    l15.n = UINT64_C(32256);
+    l16 = (uint8_t *)&l4;
     l17.p = l16;
-    l17.n = UINT64_C(32256);
-    l18 = (uint8_t *)&l4;
+    l17.n = UINT64_C(16);
+    l18 = (uint8_t *)&l5;
     l19.p = l18;
-    l19.n = UINT64_C(16);
-    l20 = (uint8_t *)&l5;
+    l19.n = UINT64_C(128);
+    l20 = (uint8_t *)&l6;
     l21.p = l20;
-    l21.n = UINT64_C(128);
-    l22 = (uint8_t *)&l6;
-    l23.p = l22;
-    l23.n = UINT64_C(512);
-    l7 = load__program(l1, l17, l19, l21, l23);
+    l21.n = UINT64_C(512);
+    l7 = load__program(l1, l15, l17, l19, l21);
     switch (l7.tag) {
         case UINT8_C(0): {
-            l8 = l7.s0;
+            l8.f0 = l7.s0.f0;
+            l8.f1 = l7.s0.f1;
+            l8.f2 = l7.s0.f2;
+            l8.f3 = l7.s0.f3;
+            l8.f4 = l7.s0.f4;
+            l8.f5 = l7.s0.f5;
+            l8.f6 = l7.s0.f6;
             break;
         }
         case UINT8_C(1): default: {
-            l24 = (uint8_t *)&(*(uint8_t *)l2.p);
-            l25.p = l24;
-            l25.n = l2.n;
-            l26 = (uint8_t *)&listing__image__listing__l14;
-            l27.p = l26;
-            l27.n = UINT64_C(7);
-            l29 = load__refusal(l7);
-            l30 = (uint64_t)l29;
-            l28 = (struct rt_array_uint64_1){ { l30 } };
-            l31 = (uint8_t *)&l28;
-            l32.p = l31;
-            l32.n = UINT64_C(1);
-            l0 = text__lines__row(l25, UINT64_C(0), l27, l32);
+            l22 = (uint8_t *)&(*(uint8_t *)l2.p);
+            l23.p = l22;
+            l23.n = l2.n;
+            l24 = (uint8_t *)&listing__image__listing__l57;
+            l25 = (uint8_t *)&(*(uint8_t *)l24);
+            l26.p = l25;
+            l26.n = UINT64_C(7);
+            l28 = load__refusal(l7);
+            l29 = (uint64_t)l28;
+            l27 = (struct rt_array_uint64_1){ { l29 } };
+            l30 = (uint8_t *)&l27;
+            l31.p = l30;
+            l31.n = UINT64_C(1);
+            l0 = text__lines__row(l23, UINT64_C(0), l26, l31);
             return l0;
             break;
         }
@@ -9193,31 +9501,32 @@ static inline uint64_t listing__image__listing(rt_slice l1, rt_slice l2)
     l9 = l8.f0;
     l10 = (uint64_t)l8.f3;
     memset(&l11, 0, sizeof l11);
-    l34 = (uint8_t *)&l3;
-    l35.p = l34;
-    l35.n = l9;
-    l36 = (uint8_t *)&l4;
-    l37.p = l36;
-    l37.n = l10;
-    l38 = (uint8_t *)&l11;
-    l39.p = l38;
-    l39.n = UINT64_C(1024);
-    emit_steps__program(l35, l37, l8.f1, l39);
-    l40 = (uint64_t)l8.f3;
-    l41 = (uint64_t)l8.f4;
-    l42 = (uint64_t)l8.f5;
-    l43 = (uint64_t)l8.f6;
-    l12 = (struct rt_array_uint64_4){ { l40, l41, l42, l43 } };
-    l44 = (uint8_t *)&(*(uint8_t *)l2.p);
-    l45.p = l44;
-    l45.n = l2.n;
-    l46 = (uint8_t *)&listing__image__listing__l15;
+    l33 = (uint8_t *)&l3;
+    l34.p = l33;
+    l34.n = l9;
+    l35 = (uint8_t *)&l4;
+    l36.p = l35;
+    l36.n = l10;
+    l37 = (uint8_t *)&l11;
+    l38.p = l37;
+    l38.n = UINT64_C(1024);
+    emit_steps__program(l34, l36, l8.f1, l38);
+    l39 = (uint64_t)l8.f3;
+    l40 = (uint64_t)l8.f4;
+    l41 = (uint64_t)l8.f5;
+    l42 = (uint64_t)l8.f6;
+    l12 = (struct rt_array_uint64_4){ { l39, l40, l41, l42 } };
+    l43 = (uint8_t *)&(*(uint8_t *)l2.p);
+    l44.p = l43;
+    l44.n = l2.n;
+    l45 = (uint8_t *)&listing__image__listing__l58;
+    l46 = (uint8_t *)&(*(uint8_t *)l45);
     l47.p = l46;
     l47.n = UINT64_C(6);
     l48 = (uint8_t *)&l12;
     l49.p = l48;
     l49.n = UINT64_C(4);
-    l13 = text__lines__row(l45, UINT64_C(0), l47, l49);
+    l13 = text__lines__row(l44, UINT64_C(0), l47, l49);
     l50 = (uint8_t *)&l6;
     l51.p = l50;
     l51.n = UINT64_C(512);
@@ -9374,7 +9683,7 @@ static inline uint64_t little_endian__word_at(rt_slice l1, uint64_t l2)
     return l0;
 }
 
-static inline struct load__Load load__of_stream(rt_slice l1, rt_slice l2, rt_slice l3, rt_slice l4)
+static RT_HERE struct load__Load load__of_stream(rt_slice l1, rt_slice l2, rt_slice l3, rt_slice l4)
 {
     struct load__Load l0;
     struct read_program__ProgramRead l5;
@@ -9403,7 +9712,12 @@ static inline struct load__Load load__of_stream(rt_slice l1, rt_slice l2, rt_sli
     switch (l5.tag) {
         case UINT8_C(0): {
             l6 = l5.s0;
-            l7 = l5.s1;
+            l7.f0 = l5.s1.f0;
+            l7.f1 = l5.s1.f1;
+            l7.f2 = l5.s1.f2;
+            l7.f3 = l5.s1.f3;
+            l7.f4 = l5.s1.f4;
+            l7.f5 = l5.s1.f5;
             break;
         }
         case UINT8_C(1): default: {
@@ -9427,7 +9741,7 @@ static inline struct load__Load load__of_stream(rt_slice l1, rt_slice l2, rt_sli
     return l0;
 }
 
-static inline struct load__Load load__program(rt_slice l1, rt_slice l2, rt_slice l3, rt_slice l4, rt_slice l5)
+static RT_HERE struct load__Load load__program(rt_slice l1, rt_slice l2, rt_slice l3, rt_slice l4, rt_slice l5)
 {
     struct load__Load l0;
     struct blocks__Opened l6;
@@ -9497,7 +9811,7 @@ static inline uint8_t load__refusal(struct load__Load l1)
     return l0;
 }
 
-static inline struct load__Loaded load__summed(uint64_t l1, uint64_t l2, struct read_program__Summary l3)
+static RT_HERE struct load__Loaded load__summed(uint64_t l1, uint64_t l2, struct read_program__Summary l3)
 {
     struct load__Loaded l0;
     uint8_t l4;
@@ -9525,7 +9839,10 @@ static inline struct read_exprs__read__ExprRead read_exprs__expr__anew(struct re
     switch (l1.tag) {
         case UINT8_C(0): {
             l2 = l1.s0;
-            l3 = l1.s1;
+            l3.f0 = l1.s1.f0;
+            l3.f1 = l1.s1.f1;
+            l3.f2 = l1.s1.f2;
+            l3.f3 = l1.s1.f3;
             break;
         }
         case UINT8_C(1): default: {
@@ -9551,7 +9868,10 @@ static inline struct read_exprs__read__ExprRead read_exprs__expr__around(struct 
     switch (l1.tag) {
         case UINT8_C(0): {
             l2 = l1.s0;
-            l3 = l1.s1;
+            l3.f0 = l1.s1.f0;
+            l3.f1 = l1.s1.f1;
+            l3.f2 = l1.s1.f2;
+            l3.f3 = l1.s1.f3;
             break;
         }
         case UINT8_C(1): default: {
@@ -9576,7 +9896,10 @@ static inline struct read_exprs__read__ExprRead read_exprs__expr__beside(uint8_t
     switch (l3.tag) {
         case UINT8_C(0): {
             l4 = l3.s0;
-            l5 = l3.s1;
+            l5.f0 = l3.s1.f0;
+            l5.f1 = l3.s1.f1;
+            l5.f2 = l3.s1.f2;
+            l5.f3 = l3.s1.f3;
             break;
         }
         case UINT8_C(1): default: {
@@ -9641,7 +9964,10 @@ static inline struct read_exprs__read__ExprRead read_exprs__expr__construct(rt_s
         switch (l15.tag) {
             case UINT8_C(0): {
                 l16 = l15.s0;
-                l17 = l15.s1;
+                l17.f0 = l15.s1.f0;
+                l17.f1 = l15.s1.f1;
+                l17.f2 = l15.s1.f2;
+                l17.f3 = l15.s1.f3;
                 break;
             }
             case UINT8_C(1): default: {
@@ -9727,7 +10053,10 @@ static inline struct read_exprs__read__ExprRead read_exprs__expr__expr(rt_slice 
     switch (l12.tag) {
         case UINT8_C(0): {
             l13 = l12.s0;
-            l14 = l12.s1;
+            l14.f0 = l12.s1.f0;
+            l14.f1 = l12.s1.f1;
+            l14.f2 = l12.s1.f2;
+            l14.f3 = l12.s1.f3;
             break;
         }
         case UINT8_C(1): default: {
@@ -9742,7 +10071,7 @@ static inline struct read_exprs__read__ExprRead read_exprs__expr__expr(rt_slice 
     return l0;
 }
 
-static inline struct read_exprs__read__ExprRead read_exprs__leaf__bool_byte(rt_slice l1, uint64_t l2)
+static RT_HERE struct read_exprs__read__ExprRead read_exprs__leaf__bool_byte(rt_slice l1, uint64_t l2)
 {
     struct read_exprs__read__ExprRead l0;
     struct read_exprs__read__ByteRead l3;
@@ -9817,7 +10146,7 @@ static inline struct read_exprs__read__ExprRead read_exprs__leaf__leaf(rt_slice 
     return l0;
 }
 
-static inline struct read_exprs__read__ExprRead read_exprs__leaf__null(rt_slice l1, uint64_t l2, uint64_t l3)
+static RT_HERE struct read_exprs__read__ExprRead read_exprs__leaf__null(rt_slice l1, uint64_t l2, uint64_t l3)
 {
     struct read_exprs__read__ExprRead l0;
     struct read_exprs__read__ByteRead l4;
@@ -9847,7 +10176,7 @@ static inline struct read_exprs__read__ExprRead read_exprs__leaf__null(rt_slice 
     return l0;
 }
 
-static inline struct read_exprs__read__ExprRead read_exprs__leaf__travel(rt_slice l1, rt_slice l2, rt_slice l3, uint8_t l4, uint64_t l5, uint64_t l6)
+static RT_HERE struct read_exprs__read__ExprRead read_exprs__leaf__travel(rt_slice l1, rt_slice l2, rt_slice l3, uint8_t l4, uint64_t l5, uint64_t l6)
 {
     struct read_exprs__read__ExprRead l0;
     struct read_exprs__read__PathRead l7;
@@ -9861,7 +10190,8 @@ static inline struct read_exprs__read__ExprRead read_exprs__leaf__travel(rt_slic
         case UINT8_C(0): {
             l8 = l7.s0;
             l9 = l7.s1;
-            l10 = l7.s2;
+            l10.f0 = l7.s2.f0;
+            l10.f1 = l7.s2.f1;
             break;
         }
         case UINT8_C(1): default: {
@@ -9879,7 +10209,7 @@ static inline struct read_exprs__read__ExprRead read_exprs__leaf__travel(rt_slic
     return l0;
 }
 
-static inline struct read_exprs__read__ExprRead read_exprs__leaf__word(rt_slice l1, uint8_t l2, uint64_t l3)
+static RT_HERE struct read_exprs__read__ExprRead read_exprs__leaf__word(rt_slice l1, uint8_t l2, uint64_t l3)
 {
     struct read_exprs__read__ExprRead l0;
     struct judge__Facts l4;
@@ -9902,7 +10232,7 @@ static inline struct read_exprs__read__ExprRead read_exprs__leaf__word(rt_slice 
     return l0;
 }
 
-static inline struct read_exprs__read__PathRead read_exprs__path__first(rt_slice l1, rt_slice l2, rt_slice l3, uint8_t l4, uint64_t l5, uint8_t l6, uint64_t l7)
+static RT_HERE struct read_exprs__read__PathRead read_exprs__path__first(rt_slice l1, rt_slice l2, rt_slice l3, uint8_t l4, uint64_t l5, uint8_t l6, uint64_t l7)
 {
     struct read_exprs__read__PathRead l0;
     struct read_exprs__read__ByteRead l8;
@@ -9932,7 +10262,7 @@ static inline struct read_exprs__read__PathRead read_exprs__path__first(rt_slice
     return l0;
 }
 
-static inline struct read_exprs__read__PathRead read_exprs__path__follow(rt_slice l1, rt_slice l2, rt_slice l3, struct judge__Judged l4, uint8_t l5, uint8_t l6, uint64_t l7)
+static RT_HERE struct read_exprs__read__PathRead read_exprs__path__follow(rt_slice l1, rt_slice l2, rt_slice l3, struct judge__Judged l4, uint8_t l5, uint8_t l6, uint64_t l7)
 {
     struct read_exprs__read__PathRead l0;
     struct judge__Judged l8;
@@ -9944,7 +10274,8 @@ static inline struct read_exprs__read__PathRead read_exprs__path__follow(rt_slic
     uint8_t l14;
     uint8_t l15;
     uint8_t l16;
-    l8 = l4;
+    l8.f0 = l4.f0;
+    l8.f1 = l4.f1;
     l9 = l7;
     l10 = l5;
     for (;;) {
@@ -9981,7 +10312,7 @@ end1:;
     return l0;
 }
 
-static inline struct read_exprs__read__PathRead read_exprs__path__path(rt_slice l1, rt_slice l2, rt_slice l3, uint8_t l4, uint64_t l5, uint64_t l6)
+static RT_HERE struct read_exprs__read__PathRead read_exprs__path__path(rt_slice l1, rt_slice l2, rt_slice l3, uint8_t l4, uint64_t l5, uint64_t l6)
 {
     struct read_exprs__read__PathRead l0;
     struct read_exprs__read__ByteRead l7;
@@ -10120,7 +10451,7 @@ static inline struct read_exprs__read__ByteRead read_exprs__read__ranged(rt_slic
     return l0;
 }
 
-static inline struct read_exprs__read__ByteRead read_exprs__read__type_byte(rt_slice l1, uint64_t l2, uint64_t l3)
+static RT_HERE struct read_exprs__read__ByteRead read_exprs__read__type_byte(rt_slice l1, uint64_t l2, uint64_t l3)
 {
     struct read_exprs__read__ByteRead l0;
     uint8_t l4;
@@ -10176,7 +10507,7 @@ end1:;
     return;
 }
 
-static inline struct read_params__PlaceRead read_params__list(rt_slice l1, rt_slice l2, rt_slice l3, uint8_t l4, uint8_t l5, uint64_t l6)
+static RT_HERE struct read_params__PlaceRead read_params__list(rt_slice l1, rt_slice l2, rt_slice l3, uint8_t l4, uint8_t l5, uint64_t l6)
 {
     struct read_params__PlaceRead l0;
     struct read_exprs__read__ByteRead l7;
@@ -10216,7 +10547,7 @@ static inline struct read_params__PlaceRead read_params__list(rt_slice l1, rt_sl
     return l0;
 }
 
-static inline struct read_params__PlaceRead read_params__lists(rt_slice l1, rt_slice l2, rt_slice l3, uint8_t l4, uint8_t l5, uint8_t l6, uint64_t l7)
+static RT_HERE struct read_params__PlaceRead read_params__lists(rt_slice l1, rt_slice l2, rt_slice l3, uint8_t l4, uint8_t l5, uint8_t l6, uint64_t l7)
 {
     struct read_params__PlaceRead l0;
     uint64_t l8;
@@ -10266,7 +10597,7 @@ end1:;
     return l0;
 }
 
-static inline struct read_params__ParamsRead read_params__params(rt_slice l1, rt_slice l2, rt_slice l3)
+static RT_HERE struct read_params__ParamsRead read_params__params(rt_slice l1, rt_slice l2, rt_slice l3)
 {
     struct read_params__ParamsRead l0;
     struct read_exprs__read__ByteRead l4;
@@ -10361,7 +10692,7 @@ static inline uint8_t read_params__place_refusal(struct read_params__PlaceRead l
     return l0;
 }
 
-static inline struct read_params__PlaceRead read_params__row(rt_slice l1, rt_slice l2, uint8_t l3, uint8_t l4, uint8_t l5, uint64_t l6, uint64_t l7)
+static RT_HERE struct read_params__PlaceRead read_params__row(rt_slice l1, rt_slice l2, uint8_t l3, uint8_t l4, uint8_t l5, uint64_t l6, uint64_t l7)
 {
     struct read_params__PlaceRead l0;
     uint64_t l8;
@@ -10420,7 +10751,7 @@ end1:;
     return l0;
 }
 
-static inline struct read_program__ProgramRead read_program__end(rt_slice l1, rt_slice l2, uint8_t l3, uint64_t l4, struct read_program__totals__Totals l5, uint64_t l6)
+static RT_HERE struct read_program__ProgramRead read_program__end(rt_slice l1, rt_slice l2, uint8_t l3, uint64_t l4, struct read_program__totals__Totals l5, uint64_t l6)
 {
     struct read_program__ProgramRead l0;
     struct read_schedule__PlanRead l7;
@@ -10436,7 +10767,8 @@ static inline struct read_program__ProgramRead read_program__end(rt_slice l1, rt
     switch (l7.tag) {
         case UINT8_C(0): {
             l8 = l7.s0;
-            l9 = l7.s1;
+            l9.f0 = l7.s1.f0;
+            l9.f1 = l7.s1.f1;
             break;
         }
         case UINT8_C(1): default: {
@@ -10484,7 +10816,7 @@ static inline uint8_t read_program__number(struct read_program__totals__Totals l
     return l0;
 }
 
-static inline struct read_program__ProgramRead read_program__program(rt_slice l1, rt_slice l2, rt_slice l3, rt_slice l4)
+static RT_HERE struct read_program__ProgramRead read_program__program(rt_slice l1, rt_slice l2, rt_slice l3, rt_slice l4)
 {
     struct read_program__ProgramRead l0;
     struct read_params__ParamsRead l5;
@@ -10558,7 +10890,7 @@ static inline uint8_t read_program__program_refusal(struct read_program__Program
     return l0;
 }
 
-static inline struct read_program__ProgramRead read_program__rest(rt_slice l1, rt_slice l2, rt_slice l3, rt_slice l4, uint8_t l5, uint64_t l6)
+static RT_HERE struct read_program__ProgramRead read_program__rest(rt_slice l1, rt_slice l2, rt_slice l3, rt_slice l4, uint8_t l5, uint64_t l6)
 {
     struct read_program__ProgramRead l0;
     struct read_program__totals__TotalsRead l7;
@@ -10578,7 +10910,11 @@ static inline struct read_program__ProgramRead read_program__rest(rt_slice l1, r
     switch (l7.tag) {
         case UINT8_C(0): {
             l8 = l7.s0;
-            l9 = l7.s1;
+            l9.f0 = l7.s1.f0;
+            l9.f1 = l7.s1.f1;
+            l9.f2 = l7.s1.f2;
+            l9.f3 = l7.s1.f3;
+            l9.f4 = l7.s1.f4;
             break;
         }
         case UINT8_C(1): default: {
@@ -10596,7 +10932,7 @@ static inline struct read_program__ProgramRead read_program__rest(rt_slice l1, r
     return l0;
 }
 
-static inline struct read_program__Summary read_program__summed(uint8_t l1, uint64_t l2, struct read_program__totals__Totals l3, struct read_schedule__Planned l4)
+static RT_HERE struct read_program__Summary read_program__summed(uint8_t l1, uint64_t l2, struct read_program__totals__Totals l3, struct read_schedule__Planned l4)
 {
     struct read_program__Summary l0;
     uint8_t l5;
@@ -10646,7 +10982,7 @@ end1:;
     return l0;
 }
 
-static inline struct read_program__totals__Totals read_program__totals__none(void)
+static RT_HERE struct read_program__totals__Totals read_program__totals__none(void)
 {
     struct read_program__totals__Totals l0;
     l0.f0 = UINT64_C(0);
@@ -10692,7 +11028,7 @@ static inline uint8_t read_program__totals__noted(rt_slice l1, uint8_t l2, uint8
     return l0;
 }
 
-static inline struct read_program__totals__TotalsRead read_program__totals__of_struct(rt_slice l1, rt_slice l2, rt_slice l3, rt_slice l4, uint8_t l5, struct read_program__totals__Totals l6, uint64_t l7)
+static RT_HERE struct read_program__totals__TotalsRead read_program__totals__of_struct(rt_slice l1, rt_slice l2, rt_slice l3, rt_slice l4, uint8_t l5, struct read_program__totals__Totals l6, uint64_t l7)
 {
     struct read_program__totals__TotalsRead l0;
     struct read_exprs__read__ByteRead l8;
@@ -10725,7 +11061,11 @@ static inline struct read_program__totals__TotalsRead read_program__totals__of_s
             break;
         }
     }
-    l11 = l6;
+    l11.f0 = l6.f0;
+    l11.f1 = l6.f1;
+    l11.f2 = l6.f2;
+    l11.f3 = l6.f3;
+    l11.f4 = l6.f4;
     l12 = l10;
     l13 = l9;
     for (;;) {
@@ -10741,7 +11081,11 @@ static inline struct read_program__totals__TotalsRead read_program__totals__of_s
         switch (l14.tag) {
             case UINT8_C(0): {
                 l15 = l14.s0;
-                l16 = l14.s1;
+                l16.f0 = l14.s1.f0;
+                l16.f1 = l14.s1.f1;
+                l16.f2 = l14.s1.f2;
+                l16.f3 = l14.s1.f3;
+                l16.f4 = l14.s1.f4;
                 break;
             }
             case UINT8_C(1): default: {
@@ -10750,7 +11094,11 @@ static inline struct read_program__totals__TotalsRead read_program__totals__of_s
                 break;
             }
         }
-        l11 = l16;
+        l11.f0 = l16.f0;
+        l11.f1 = l16.f1;
+        l11.f2 = l16.f2;
+        l11.f3 = l16.f3;
+        l11.f4 = l16.f4;
         l12 = l15;
         l13 = (uint8_t)((uint32_t)l13 - (uint32_t)UINT8_C(1));
     }
@@ -10779,7 +11127,7 @@ static inline uint8_t read_program__totals__over(uint8_t l1, struct judge__Done 
     return l0;
 }
 
-static inline struct read_program__totals__Totals read_program__totals__plus(struct read_program__totals__Totals l1, struct judge__Done l2, uint8_t l3)
+static RT_HERE struct read_program__totals__Totals read_program__totals__plus(struct read_program__totals__Totals l1, struct judge__Done l2, uint8_t l3)
 {
     struct read_program__totals__Totals l0;
     uint8_t l4;
@@ -10803,7 +11151,7 @@ static inline struct read_program__totals__Totals read_program__totals__plus(str
     return l0;
 }
 
-static inline struct read_program__totals__TotalsRead read_program__totals__step(rt_slice l1, rt_slice l2, rt_slice l3, rt_slice l4, uint8_t l5, struct read_program__totals__Totals l6, uint64_t l7)
+static RT_HERE struct read_program__totals__TotalsRead read_program__totals__step(rt_slice l1, rt_slice l2, rt_slice l3, rt_slice l4, uint8_t l5, struct read_program__totals__Totals l6, uint64_t l7)
 {
     struct read_program__totals__TotalsRead l0;
     struct read_exprs__read__ByteRead l8;
@@ -10840,7 +11188,12 @@ static inline struct read_program__totals__TotalsRead read_program__totals__step
     switch (l11.tag) {
         case UINT8_C(0): {
             l12 = l11.s0;
-            l13 = l11.s1;
+            l13.f0 = l11.s1.f0;
+            l13.f1 = l11.s1.f1;
+            l13.f2 = l11.s1.f2;
+            l13.f3 = l11.s1.f3;
+            l13.f4.f0 = l11.s1.f4.f0;
+            l13.f4.f1 = l11.s1.f4.f1;
             break;
         }
         case UINT8_C(1): default: {
@@ -10881,7 +11234,7 @@ static inline uint8_t read_program__totals__stmt_refusal(struct read_stmts__Stmt
     return l0;
 }
 
-static inline struct read_program__totals__TotalsRead read_program__totals__structs(rt_slice l1, rt_slice l2, rt_slice l3, rt_slice l4, uint8_t l5, struct read_program__totals__Totals l6, uint64_t l7)
+static RT_HERE struct read_program__totals__TotalsRead read_program__totals__structs(rt_slice l1, rt_slice l2, rt_slice l3, rt_slice l4, uint8_t l5, struct read_program__totals__Totals l6, uint64_t l7)
 {
     struct read_program__totals__TotalsRead l0;
     struct read_program__totals__Totals l8;
@@ -10894,7 +11247,11 @@ static inline struct read_program__totals__TotalsRead read_program__totals__stru
     uint8_t l15;
     uint8_t *l16;
     rt_slice l17;
-    l8 = l6;
+    l8.f0 = l6.f0;
+    l8.f1 = l6.f1;
+    l8.f2 = l6.f2;
+    l8.f3 = l6.f3;
+    l8.f4 = l6.f4;
     l9 = l7;
     l10 = UINT8_C(0);
     l11 = l5;
@@ -10911,7 +11268,11 @@ static inline struct read_program__totals__TotalsRead read_program__totals__stru
         switch (l12.tag) {
             case UINT8_C(0): {
                 l13 = l12.s0;
-                l14 = l12.s1;
+                l14.f0 = l12.s1.f0;
+                l14.f1 = l12.s1.f1;
+                l14.f2 = l12.s1.f2;
+                l14.f3 = l12.s1.f3;
+                l14.f4 = l12.s1.f4;
                 break;
             }
             case UINT8_C(1): default: {
@@ -10920,7 +11281,11 @@ static inline struct read_program__totals__TotalsRead read_program__totals__stru
                 break;
             }
         }
-        l8 = l14;
+        l8.f0 = l14.f0;
+        l8.f1 = l14.f1;
+        l8.f2 = l14.f2;
+        l8.f3 = l14.f3;
+        l8.f4 = l14.f4;
         l9 = l13;
         l10 = (uint8_t)((uint32_t)l10 + (uint32_t)UINT8_C(1));
         l11 = (uint8_t)((uint32_t)l11 - (uint32_t)UINT8_C(1));
@@ -10961,7 +11326,8 @@ static inline struct read_schedule__PlanRead read_schedule__around(struct read_s
     switch (l1.tag) {
         case UINT8_C(0): {
             l2 = l1.s0;
-            l3 = l1.s1;
+            l3.f0 = l1.s1.f0;
+            l3.f1 = l1.s1.f1;
             break;
         }
         case UINT8_C(1): default: {
@@ -11183,7 +11549,8 @@ static inline struct read_schedule__PlanRead read_schedule__items(rt_slice l1, r
         switch (l13.tag) {
             case UINT8_C(0): {
                 l14 = l13.s0;
-                l15 = l13.s1;
+                l15.f0 = l13.s1.f0;
+                l15.f1 = l13.s1.f1;
                 break;
             }
             case UINT8_C(1): default: {
@@ -11215,7 +11582,7 @@ static inline struct read_schedule__Planned read_schedule__joined(struct read_sc
     return l0;
 }
 
-static inline struct read_schedule__Planned read_schedule__one(uint8_t l1)
+static RT_HERE struct read_schedule__Planned read_schedule__one(uint8_t l1)
 {
     struct read_schedule__Planned l0;
     uint8_t l2;
@@ -11253,7 +11620,12 @@ static inline struct read_stmts__StmtRead read_stmts__made__branched(struct judg
     switch (l3.tag) {
         case UINT8_C(0): {
             l4 = l3.s0;
-            l5 = l3.s1;
+            l5.f0 = l3.s1.f0;
+            l5.f1 = l3.s1.f1;
+            l5.f2 = l3.s1.f2;
+            l5.f3 = l3.s1.f3;
+            l5.f4.f0 = l3.s1.f4.f0;
+            l5.f4.f1 = l3.s1.f4.f1;
             break;
         }
         case UINT8_C(1): default: {
@@ -11269,7 +11641,7 @@ static inline struct read_stmts__StmtRead read_stmts__made__branched(struct judg
     return l0;
 }
 
-static inline struct read_stmts__StmtRead read_stmts__made__declared(struct judge__Scope l1, uint8_t l2, uint8_t l3, struct read_exprs__read__ExprRead l4)
+static RT_HERE struct read_stmts__StmtRead read_stmts__made__declared(struct judge__Scope l1, uint8_t l2, uint8_t l3, struct read_exprs__read__ExprRead l4)
 {
     struct read_stmts__StmtRead l0;
     uint64_t l5;
@@ -11279,7 +11651,10 @@ static inline struct read_stmts__StmtRead read_stmts__made__declared(struct judg
     switch (l4.tag) {
         case UINT8_C(0): {
             l5 = l4.s0;
-            l6 = l4.s1;
+            l6.f0 = l4.s1.f0;
+            l6.f1 = l4.s1.f1;
+            l6.f2 = l4.s1.f2;
+            l6.f3 = l4.s1.f3;
             break;
         }
         case UINT8_C(1): default: {
@@ -11297,7 +11672,7 @@ static inline struct read_stmts__StmtRead read_stmts__made__declared(struct judg
     return l0;
 }
 
-static inline struct read_stmts__StmtRead read_stmts__made__labelled(struct judge__Scope l1, struct read_exprs__read__ExprRead l2)
+static RT_HERE struct read_stmts__StmtRead read_stmts__made__labelled(struct judge__Scope l1, struct read_exprs__read__ExprRead l2)
 {
     struct read_stmts__StmtRead l0;
     uint64_t l3;
@@ -11307,7 +11682,10 @@ static inline struct read_stmts__StmtRead read_stmts__made__labelled(struct judg
     switch (l2.tag) {
         case UINT8_C(0): {
             l3 = l2.s0;
-            l4 = l2.s1;
+            l4.f0 = l2.s1.f0;
+            l4.f1 = l2.s1.f1;
+            l4.f2 = l2.s1.f2;
+            l4.f3 = l2.s1.f3;
             break;
         }
         case UINT8_C(1): default: {
@@ -11329,7 +11707,7 @@ static inline struct read_stmts__StmtRead read_stmts__made__labelled(struct judg
     return l0;
 }
 
-static inline struct read_stmts__StmtRead read_stmts__made__updated(struct judge__Scope l1, uint8_t l2, struct judge__Judged l3, struct read_exprs__read__ExprRead l4)
+static RT_HERE struct read_stmts__StmtRead read_stmts__made__updated(struct judge__Scope l1, uint8_t l2, struct judge__Judged l3, struct read_exprs__read__ExprRead l4)
 {
     struct read_stmts__StmtRead l0;
     uint64_t l5;
@@ -11339,7 +11717,10 @@ static inline struct read_stmts__StmtRead read_stmts__made__updated(struct judge
     switch (l4.tag) {
         case UINT8_C(0): {
             l5 = l4.s0;
-            l6 = l4.s1;
+            l6.f0 = l4.s1.f0;
+            l6.f1 = l4.s1.f1;
+            l6.f2 = l4.s1.f2;
+            l6.f3 = l4.s1.f3;
             break;
         }
         case UINT8_C(1): default: {
@@ -11357,7 +11738,7 @@ static inline struct read_stmts__StmtRead read_stmts__made__updated(struct judge
     return l0;
 }
 
-static inline struct read_stmts__StmtRead read_stmts__simple__create(rt_slice l1, rt_slice l2, rt_slice l3, uint8_t l4, struct judge__Scope l5, uint64_t l6)
+static RT_HERE struct read_stmts__StmtRead read_stmts__simple__create(rt_slice l1, rt_slice l2, rt_slice l3, uint8_t l4, struct judge__Scope l5, uint64_t l6)
 {
     struct read_stmts__StmtRead l0;
     uint64_t l7;
@@ -11368,7 +11749,7 @@ static inline struct read_stmts__StmtRead read_stmts__simple__create(rt_slice l1
     return l0;
 }
 
-static inline struct read_stmts__StmtRead read_stmts__simple__declare(rt_slice l1, rt_slice l2, rt_slice l3, uint8_t l4, struct judge__Scope l5, uint64_t l6)
+static RT_HERE struct read_stmts__StmtRead read_stmts__simple__declare(rt_slice l1, rt_slice l2, rt_slice l3, uint8_t l4, struct judge__Scope l5, uint64_t l6)
 {
     struct read_stmts__StmtRead l0;
     struct read_exprs__read__ByteRead l7;
@@ -11396,7 +11777,7 @@ static inline struct read_stmts__StmtRead read_stmts__simple__declare(rt_slice l
     return l0;
 }
 
-static inline struct read_stmts__StmtRead read_stmts__simple__local(rt_slice l1, rt_slice l2, rt_slice l3, uint8_t l4, struct judge__Scope l5, uint8_t l6, uint64_t l7)
+static RT_HERE struct read_stmts__StmtRead read_stmts__simple__local(rt_slice l1, rt_slice l2, rt_slice l3, uint8_t l4, struct judge__Scope l5, uint8_t l6, uint64_t l7)
 {
     struct read_stmts__StmtRead l0;
     uint64_t l8;
@@ -11452,7 +11833,7 @@ static inline struct read_stmts__StmtRead read_stmts__simple__simple(rt_slice l1
     return l0;
 }
 
-static inline struct read_stmts__StmtRead read_stmts__simple__update(rt_slice l1, rt_slice l2, rt_slice l3, uint8_t l4, struct judge__Scope l5, uint64_t l6)
+static RT_HERE struct read_stmts__StmtRead read_stmts__simple__update(rt_slice l1, rt_slice l2, rt_slice l3, uint8_t l4, struct judge__Scope l5, uint64_t l6)
 {
     struct read_stmts__StmtRead l0;
     uint64_t l7;
@@ -11468,7 +11849,8 @@ static inline struct read_stmts__StmtRead read_stmts__simple__update(rt_slice l1
         case UINT8_C(0): {
             l9 = l8.s0;
             l10 = l8.s1;
-            l11 = l8.s2;
+            l11.f0 = l8.s2.f0;
+            l11.f1 = l8.s2.f1;
             break;
         }
         case UINT8_C(1): default: {
@@ -11525,12 +11907,18 @@ static inline struct read_stmts__StmtRead read_stmts__stmt__body(rt_slice l1, rt
         } else {
             goto end1;
         }
-        l14 = l11.f4;
+        l14.f0 = l11.f4.f0;
+        l14.f1 = l11.f4.f1;
         l15 = read_stmts__stmt__stmt(l1, l2, l3, l4, l14, l12, l7);
         switch (l15.tag) {
             case UINT8_C(0): {
                 l16 = l15.s0;
-                l17 = l15.s1;
+                l17.f0 = l15.s1.f0;
+                l17.f1 = l15.s1.f1;
+                l17.f2 = l15.s1.f2;
+                l17.f3 = l15.s1.f3;
+                l17.f4.f0 = l15.s1.f4.f0;
+                l17.f4.f1 = l15.s1.f4.f1;
                 break;
             }
             case UINT8_C(1): default: {
@@ -11600,7 +11988,10 @@ static inline struct read_stmts__StmtRead read_stmts__stmt__when(rt_slice l1, rt
     switch (l9.tag) {
         case UINT8_C(0): {
             l10 = l9.s0;
-            l11 = l9.s1;
+            l11.f0 = l9.s1.f0;
+            l11.f1 = l9.s1.f1;
+            l11.f2 = l9.s1.f2;
+            l11.f3 = l9.s1.f3;
             break;
         }
         case UINT8_C(1): default: {
@@ -11616,7 +12007,7 @@ static inline struct read_stmts__StmtRead read_stmts__stmt__when(rt_slice l1, rt
     return l0;
 }
 
-static inline struct composing__Placed read_text__composed(rt_slice l1, rt_slice l2, rt_slice l3, rt_slice l4, rt_slice l5, rt_slice l6)
+static RT_HERE struct composing__Placed read_text__composed(rt_slice l1, rt_slice l2, rt_slice l3, rt_slice l4, rt_slice l5, rt_slice l6)
 {
     struct composing__Placed l0;
     uint64_t l7;
@@ -11709,7 +12100,7 @@ static inline struct read_text__Answer read_text__imaged(rt_slice l1, rt_slice l
     return l0;
 }
 
-static inline struct read_text__Answer read_text__meant(rt_slice l1, rt_slice l2, rt_slice l3, rt_slice l4)
+static RT_APART struct read_text__Answer read_text__meant(rt_slice l1, rt_slice l2, rt_slice l3, rt_slice l4)
 {
     struct read_text__Answer l0;
     struct rt_array_uint8_65536 l5;
@@ -11852,7 +12243,7 @@ static inline struct read_text__Answer read_text__passes(rt_slice l1, rt_slice l
     return l0;
 }
 
-static inline struct read_text__Answer read_text__read(rt_slice l1, rt_slice l2)
+static RT_APART struct read_text__Answer read_text__read(rt_slice l1, rt_slice l2)
 {
     struct read_text__Answer l0;
     uint64_t l3;
@@ -12476,7 +12867,7 @@ static inline void resolve__tables__put(rt_slice l1, uint64_t l2, uint64_t l3)
     return;
 }
 
-static inline struct run_images__Report run_images__begun(struct seating__Opened l1, rt_slice l2, rt_slice l3, rt_slice l4, rt_slice l5, rt_slice l6, rt_slice l7)
+static RT_APART struct run_images__Report run_images__begun(struct seating__Opened l1, rt_slice l2, rt_slice l3, rt_slice l4, rt_slice l5, rt_slice l6, rt_slice l7)
 {
     struct run_images__Report l0;
     struct load__Loaded l8;
@@ -12534,7 +12925,13 @@ static inline struct run_images__Report run_images__begun(struct seating__Opened
     rt_slice l61;
     uint8_t *l62;
     rt_slice l63;
-    l8 = l1.f0;
+    l8.f0 = l1.f0.f0;
+    l8.f1 = l1.f0.f1;
+    l8.f2 = l1.f0.f2;
+    l8.f3 = l1.f0.f3;
+    l8.f4 = l1.f0.f4;
+    l8.f5 = l1.f0.f5;
+    l8.f6 = l1.f0.f6;
     l9 = l1.f1;
     l10 = l1.f2;
     l11 = (uint64_t)l8.f3;
@@ -12570,7 +12967,14 @@ static inline struct run_images__Report run_images__begun(struct seating__Opened
     l20 = seating__seat_table(l8.f1, l13, l14, l4, l35, l37, l39);
     switch (l20.tag) {
         case UINT8_C(0): {
-            l21 = l20.s0;
+            l21.f0 = l20.s0.f0;
+            l21.f1.f0 = l20.s0.f1.f0;
+            l21.f1.f1 = l20.s0.f1.f1;
+            l21.f1.f2 = l20.s0.f1.f2;
+            l21.f1.f3 = l20.s0.f1.f3;
+            l21.f1.f4 = l20.s0.f1.f4;
+            l21.f1.f5 = l20.s0.f1.f5;
+            l21.f1.f6 = l20.s0.f1.f6;
             break;
         }
         case UINT8_C(1): default: {
@@ -12593,7 +12997,13 @@ static inline struct run_images__Report run_images__begun(struct seating__Opened
     l45.p = l44;
     l45.n = l7.n;
     emit_steps__program(l2, l13, l21.f0, l45);
-    l23 = l21.f1;
+    l23.f0 = l21.f1.f0;
+    l23.f1 = l21.f1.f1;
+    l23.f2 = l21.f1.f2;
+    l23.f3 = l21.f1.f3;
+    l23.f4 = l21.f1.f4;
+    l23.f5 = l21.f1.f5;
+    l23.f6 = l21.f1.f6;
     l24.f0 = l23;
     l46 = (uint8_t *)&(*(uint64_t *)l7.p);
     l47.p = l46;
@@ -12627,7 +13037,7 @@ static inline struct run_images__Report run_images__begun(struct seating__Opened
     return l0;
 }
 
-static inline struct run_images__Report run_images__refused(uint8_t l1)
+static RT_HERE struct run_images__Report run_images__refused(uint8_t l1)
 {
     struct run_images__Report l0;
     l0.f0 = l1;
@@ -12638,7 +13048,7 @@ static inline struct run_images__Report run_images__refused(uint8_t l1)
     return l0;
 }
 
-static inline struct run_images__Report run_images__reported(rt_slice l1, rt_slice l2, rt_slice l3, struct interpreter__turns__Ran l4, uint8_t l5, rt_slice l6, rt_slice l7)
+static RT_HERE struct run_images__Report run_images__reported(rt_slice l1, rt_slice l2, rt_slice l3, struct interpreter__turns__Ran l4, uint8_t l5, rt_slice l6, rt_slice l7)
 {
     struct run_images__Report l0;
     struct engine__Machine l8;
@@ -12651,7 +13061,13 @@ static inline struct run_images__Report run_images__reported(rt_slice l1, rt_sli
     uint32_t l15;
     uint8_t l16;
     uint16_t l17;
-    l8 = l4.f0;
+    l8.f0.f0 = l4.f0.f0.f0;
+    l8.f0.f1 = l4.f0.f0.f1;
+    l8.f0.f2 = l4.f0.f0.f2;
+    l8.f0.f3 = l4.f0.f0.f3;
+    l8.f0.f4 = l4.f0.f0.f4;
+    l8.f0.f5 = l4.f0.f0.f5;
+    l8.f0.f6 = l4.f0.f0.f6;
     l9 = l8.f0.f0;
     l11 = (uint8_t *)&(*(uint8_t *)l6.p);
     l12.p = l11;
@@ -12694,7 +13110,7 @@ static inline uint8_t run_images__room(uint64_t l1, uint64_t l2, uint64_t l3)
     return l0;
 }
 
-static inline struct run_images__Report run_images__run(rt_slice l1, rt_slice l2, rt_slice l3, rt_slice l4, rt_slice l5)
+static RT_APART struct run_images__Report run_images__run(rt_slice l1, rt_slice l2, rt_slice l3, rt_slice l4, rt_slice l5)
 {
     struct run_images__Report l0;
     struct rt_array_uint8_5730 l6;
@@ -12743,7 +13159,13 @@ static inline struct run_images__Report run_images__run(rt_slice l1, rt_slice l2
     l10 = seating__admit(l1, l15, l17, l19, l21);
     switch (l10.tag) {
         case UINT8_C(0): {
-            l11 = l10.s0;
+            l11.f0 = l10.s0.f0;
+            l11.f1 = l10.s0.f1;
+            l11.f2 = l10.s0.f2;
+            l11.f3 = l10.s0.f3;
+            l11.f4 = l10.s0.f4;
+            l11.f5 = l10.s0.f5;
+            l11.f6 = l10.s0.f6;
             break;
         }
         case UINT8_C(1): default: {
@@ -12891,7 +13313,7 @@ end1:;
     return l0;
 }
 
-static inline struct layout__Numbers scheduler__schedule__advance(struct layout__Numbers l1, rt_slice l2, rt_slice l3, rt_slice l4)
+static RT_HERE struct layout__Numbers scheduler__schedule__advance(struct layout__Numbers l1, rt_slice l2, rt_slice l3, rt_slice l4)
 {
     struct layout__Numbers l0;
     uint64_t l5;
@@ -12903,8 +13325,9 @@ static inline struct layout__Numbers scheduler__schedule__advance(struct layout_
     uint8_t l11;
     uint8_t *l13;
     rt_slice l14;
-    uint8_t *l15;
-    rt_slice l16;
+    uint64_t l15;
+    uint8_t *l16;
+    rt_slice l17;
     l5 = l1.f1;
     l8 = (uint64_t)((uint64_t)l5 * (uint64_t)UINT64_C(8));
     l9 = l2.p + (size_t)l8;
@@ -12916,13 +13339,26 @@ static inline struct layout__Numbers scheduler__schedule__advance(struct layout_
         l14.p = l13;
         l14.n = l4.n;
         scheduler__begin__begin_all(l3, l14, l6, l1.f0);
-        l7 = l1;
+        l7.f0 = l1.f0;
+        l7.f1 = l1.f1;
+        l7.f2 = l1.f2;
+        l7.f3 = l1.f3;
+        l7.f4 = l1.f4;
+        l7.f5 = l1.f5;
+        l7.f6 = l1.f6;
         l7.f1 = (uint64_t)((uint64_t)l5 + (uint64_t)UINT64_C(1));
-        l15 = (uint8_t *)&(*(uint16_t *)l4.p);
-        l16.p = l15;
-        l16.n = l4.n;
-        l7.f5 = scheduler__count__holding(l16, l1.f0);
-        l0 = l7;
+        l16 = (uint8_t *)&(*(uint16_t *)l4.p);
+        l17.p = l16;
+        l17.n = l4.n;
+        l15 = scheduler__count__holding(l17, l1.f0);
+        l7.f5 = l15;
+        l0.f0 = l7.f0;
+        l0.f1 = l7.f1;
+        l0.f2 = l7.f2;
+        l0.f3 = l7.f3;
+        l0.f4 = l7.f4;
+        l0.f5 = l7.f5;
+        l0.f6 = l7.f6;
         return l0;
     }
     l11 = (uint8_t)(l6 == UINT64_C(1024));
@@ -12935,43 +13371,73 @@ static inline struct layout__Numbers scheduler__schedule__advance(struct layout_
     return l0;
 }
 
-static inline struct layout__Numbers scheduler__schedule__fix(struct layout__Numbers l1)
+static RT_HERE struct layout__Numbers scheduler__schedule__fix(struct layout__Numbers l1)
 {
     struct layout__Numbers l0;
     struct layout__Numbers l2;
     uint64_t l3;
-    l2 = l1;
+    l2.f0 = l1.f0;
+    l2.f1 = l1.f1;
+    l2.f2 = l1.f2;
+    l2.f3 = l1.f3;
+    l2.f4 = l1.f4;
+    l2.f5 = l1.f5;
+    l2.f6 = l1.f6;
     l2.f1 = (uint64_t)((uint64_t)l1.f1 + (uint64_t)UINT64_C(1));
     l2.f2 = (uint64_t)((uint64_t)l1.f2 + (uint64_t)UINT64_C(1));
     l3 = (uint64_t)((uint64_t)UINT64_C(2) * (uint64_t)l1.f3);
     l2.f3 = (uint64_t)((uint64_t)l3 + (uint64_t)UINT64_C(1));
-    l0 = l2;
+    l0.f0 = l2.f0;
+    l0.f1 = l2.f1;
+    l0.f2 = l2.f2;
+    l0.f3 = l2.f3;
+    l0.f4 = l2.f4;
+    l0.f5 = l2.f5;
+    l0.f6 = l2.f6;
     return l0;
 }
 
-static inline struct layout__Numbers scheduler__schedule__round(uint64_t l1, struct layout__Numbers l2)
+static RT_HERE struct layout__Numbers scheduler__schedule__round(uint64_t l1, struct layout__Numbers l2)
 {
     struct layout__Numbers l0;
     struct layout__Numbers l3;
     uint64_t l4;
     uint8_t l5;
-    l3 = l2;
+    l3.f0 = l2.f0;
+    l3.f1 = l2.f1;
+    l3.f2 = l2.f2;
+    l3.f3 = l2.f3;
+    l3.f4 = l2.f4;
+    l3.f5 = l2.f5;
+    l3.f6 = l2.f6;
     l4 = (uint64_t)((uint64_t)l2.f3 % (uint64_t)UINT64_C(2));
     l5 = (uint8_t)(l4 == UINT64_C(1));
     if (l5) {
         l3.f1 = (uint64_t)((uint64_t)l2.f1 + (uint64_t)UINT64_C(1));
         l3.f2 = (uint64_t)((uint64_t)l2.f2 - (uint64_t)UINT64_C(1));
         l3.f3 = (uint64_t)((uint64_t)l2.f3 / (uint64_t)UINT64_C(2));
-        l0 = l3;
+        l0.f0 = l3.f0;
+        l0.f1 = l3.f1;
+        l0.f2 = l3.f2;
+        l0.f3 = l3.f3;
+        l0.f4 = l3.f4;
+        l0.f5 = l3.f5;
+        l0.f6 = l3.f6;
         return l0;
     }
     l3.f1 = l1;
     l3.f3 = (uint64_t)((uint64_t)l2.f3 + (uint64_t)UINT64_C(1));
-    l0 = l3;
+    l0.f0 = l3.f0;
+    l0.f1 = l3.f1;
+    l0.f2 = l3.f2;
+    l0.f3 = l3.f3;
+    l0.f4 = l3.f4;
+    l0.f5 = l3.f5;
+    l0.f6 = l3.f6;
     return l0;
 }
 
-static inline struct load__Load seating__admit(rt_slice l1, rt_slice l2, rt_slice l3, rt_slice l4, rt_slice l5)
+static RT_APART struct load__Load seating__admit(rt_slice l1, rt_slice l2, rt_slice l3, rt_slice l4, rt_slice l5)
 {
     struct load__Load l0;
     struct rt_array_uint8_32256 l6;
@@ -13006,7 +13472,13 @@ static inline struct load__Load seating__admit(rt_slice l1, rt_slice l2, rt_slic
     l7 = load__program(l1, l11, l13, l15, l17);
     switch (l7.tag) {
         case UINT8_C(0): {
-            l8 = l7.s0;
+            l8.f0 = l7.s0.f0;
+            l8.f1 = l7.s0.f1;
+            l8.f2 = l7.s0.f2;
+            l8.f3 = l7.s0.f3;
+            l8.f4 = l7.s0.f4;
+            l8.f5 = l7.s0.f5;
+            l8.f6 = l7.s0.f6;
             break;
         }
         case UINT8_C(1): default: {
@@ -13046,7 +13518,7 @@ static inline uint8_t seating__refusal(struct seating__SeatRead l1)
     return l0;
 }
 
-static inline struct seating__SeatRead seating__seat_table(uint64_t l1, rt_slice l2, rt_slice l3, rt_slice l4, rt_slice l5, rt_slice l6, rt_slice l7)
+static RT_HERE struct seating__SeatRead seating__seat_table(uint64_t l1, rt_slice l2, rt_slice l3, rt_slice l4, rt_slice l5, rt_slice l6, rt_slice l7)
 {
     struct seating__SeatRead l0;
     struct table_read__TableRead l8;
@@ -13107,13 +13579,6 @@ static inline uint8_t seating__table_refusal(struct table_read__TableRead l1)
         }
     }
     l0 = l2;
-    return l0;
-}
-
-static inline uint16_t std__num__wrapping_add_u16(uint16_t l1, uint16_t l2)
-{
-    uint16_t l0;
-    l0 = (uint16_t)((uint32_t)l1 + (uint32_t)l2);
     return l0;
 }
 
@@ -13198,7 +13663,7 @@ end1:;
     return l0;
 }
 
-static inline struct step_part__Spot step_part__locate(rt_slice l1, uint8_t l2, uint8_t l3)
+static RT_APART struct step_part__Spot step_part__locate(rt_slice l1, uint8_t l2, uint8_t l3)
 {
     struct step_part__Spot l0;
     struct rt_array_uint8_32256 l4;
@@ -13238,7 +13703,13 @@ static inline struct step_part__Spot step_part__locate(rt_slice l1, uint8_t l2, 
     l8 = load__program(l1, l11, l13, l15, l17);
     switch (l8.tag) {
         case UINT8_C(0): {
-            l9 = l8.s0;
+            l9.f0 = l8.s0.f0;
+            l9.f1 = l8.s0.f1;
+            l9.f2 = l8.s0.f2;
+            l9.f3 = l8.s0.f3;
+            l9.f4 = l8.s0.f4;
+            l9.f5 = l8.s0.f5;
+            l9.f6 = l8.s0.f6;
             break;
         }
         case UINT8_C(1): default: {
@@ -13256,7 +13727,7 @@ static inline struct step_part__Spot step_part__locate(rt_slice l1, uint8_t l2, 
     return l0;
 }
 
-static inline struct step_part__Spot step_part__nowhere(uint8_t l1)
+static RT_HERE struct step_part__Spot step_part__nowhere(uint8_t l1)
 {
     struct step_part__Spot l0;
     l0.f0 = l1;
@@ -13265,7 +13736,7 @@ static inline struct step_part__Spot step_part__nowhere(uint8_t l1)
     return l0;
 }
 
-static inline struct step_part__Spot step_part__spotted(struct directory__rows__Sought l1)
+static RT_HERE struct step_part__Spot step_part__spotted(struct directory__rows__Sought l1)
 {
     struct step_part__Spot l0;
     struct directory__Row l2;
@@ -13273,7 +13744,10 @@ static inline struct step_part__Spot step_part__spotted(struct directory__rows__
     uint64_t l4;
     switch (l1.tag) {
         case UINT8_C(0): {
-            l2 = l1.s0;
+            l2.f0 = l1.s0.f0;
+            l2.f1 = l1.s0.f1;
+            l2.f2 = l1.s0.f2;
+            l2.f3 = l1.s0.f3;
             break;
         }
         case UINT8_C(1): default: {
@@ -13290,7 +13764,7 @@ static inline struct step_part__Spot step_part__spotted(struct directory__rows__
     return l0;
 }
 
-static inline struct step_part__Spot step_part__step_place(rt_slice l1, rt_slice l2, uint8_t l3, uint8_t l4)
+static RT_HERE struct step_part__Spot step_part__step_place(rt_slice l1, rt_slice l2, uint8_t l3, uint8_t l4)
 {
     struct step_part__Spot l0;
     struct step_part__Spot l5;
@@ -13299,7 +13773,9 @@ static inline struct step_part__Spot step_part__step_place(rt_slice l1, rt_slice
     l5 = step_part__locate(l1, l3, l4);
     l6 = (uint8_t)(l5.f0 != UINT8_C(0));
     if (l6) {
-        l0 = l5;
+        l0.f0 = l5.f0;
+        l0.f1 = l5.f1;
+        l0.f2 = l5.f2;
         return l0;
     }
     l7 = l2.n;
@@ -13308,11 +13784,13 @@ static inline struct step_part__Spot step_part__step_place(rt_slice l1, rt_slice
         l0 = step_part__nowhere(UINT8_C(13));
         return l0;
     }
-    l0 = l5;
+    l0.f0 = l5.f0;
+    l0.f1 = l5.f1;
+    l0.f2 = l5.f2;
     return l0;
 }
 
-static inline struct table_read__TableRead table_read__behind(rt_slice l1, rt_slice l2, rt_slice l3, uint64_t l4, rt_slice l5, rt_slice l6)
+static RT_HERE struct table_read__TableRead table_read__behind(rt_slice l1, rt_slice l2, rt_slice l3, uint64_t l4, rt_slice l5, rt_slice l6)
 {
     struct table_read__TableRead l0;
     uint64_t l7;
@@ -13472,7 +13950,7 @@ end1:;
     return;
 }
 
-static inline struct table_read__TableRead table_read__read(rt_slice l1, rt_slice l2, rt_slice l3, rt_slice l4, rt_slice l5)
+static RT_HERE struct table_read__TableRead table_read__read(rt_slice l1, rt_slice l2, rt_slice l3, rt_slice l4, rt_slice l5)
 {
     struct table_read__TableRead l0;
     struct table_read__reading__CountRead l6;
@@ -13508,7 +13986,7 @@ static inline struct table_read__TableRead table_read__read(rt_slice l1, rt_slic
     return l0;
 }
 
-static inline struct table_read__TableRead table_read__read_image(rt_slice l1, rt_slice l2, rt_slice l3, rt_slice l4, rt_slice l5, rt_slice l6)
+static RT_HERE struct table_read__TableRead table_read__read_image(rt_slice l1, rt_slice l2, rt_slice l3, rt_slice l4, rt_slice l5, rt_slice l6)
 {
     struct table_read__TableRead l0;
     struct blocks__Opened l7;
@@ -13567,7 +14045,7 @@ static inline uint8_t table_read__reading__allowed(uint8_t l1, uint64_t l2)
     return l0;
 }
 
-static inline struct table_read__reading__CountRead table_read__reading__count(rt_slice l1, uint64_t l2)
+static RT_HERE struct table_read__reading__CountRead table_read__reading__count(rt_slice l1, uint64_t l2)
 {
     struct table_read__reading__CountRead l0;
     uint64_t l3;
@@ -13612,7 +14090,7 @@ static inline uint8_t table_read__reading__count_refusal(struct table_read__read
     return l0;
 }
 
-static inline struct table_read__reading__PlaceRead table_read__reading__one_record(rt_slice l1, rt_slice l2, rt_slice l3, uint64_t l4, rt_slice l5, rt_slice l6, uint64_t l7)
+static RT_HERE struct table_read__reading__PlaceRead table_read__reading__one_record(rt_slice l1, rt_slice l2, rt_slice l3, uint64_t l4, rt_slice l5, rt_slice l6, uint64_t l7)
 {
     struct table_read__reading__PlaceRead l0;
     uint64_t l8;
@@ -13681,7 +14159,7 @@ static inline uint8_t table_read__reading__place_refusal(struct table_read__read
     return l0;
 }
 
-static inline struct table_read__reading__PlaceRead table_read__reading__records(rt_slice l1, rt_slice l2, rt_slice l3, uint64_t l4, uint64_t l5, rt_slice l6, rt_slice l7)
+static RT_HERE struct table_read__reading__PlaceRead table_read__reading__records(rt_slice l1, rt_slice l2, rt_slice l3, uint64_t l4, uint64_t l5, rt_slice l6, rt_slice l7)
 {
     struct table_read__reading__PlaceRead l0;
     uint64_t l8;
@@ -13732,7 +14210,7 @@ end1:;
     return l0;
 }
 
-static inline struct table_read__reading__PlaceRead table_read__reading__value(rt_slice l1, uint8_t l2, uint64_t l3, rt_slice l4, uint64_t l5)
+static RT_HERE struct table_read__reading__PlaceRead table_read__reading__value(rt_slice l1, uint8_t l2, uint64_t l3, rt_slice l4, uint64_t l5)
 {
     struct table_read__reading__PlaceRead l0;
     uint64_t l6;
@@ -13768,7 +14246,7 @@ static inline struct table_read__reading__PlaceRead table_read__reading__value(r
     return l0;
 }
 
-static inline struct table_read__reading__PlaceRead table_read__reading__values(rt_slice l1, rt_slice l2, uint64_t l3, uint64_t l4, uint64_t l5, rt_slice l6, uint64_t l7)
+static RT_HERE struct table_read__reading__PlaceRead table_read__reading__values(rt_slice l1, rt_slice l2, uint64_t l3, uint64_t l4, uint64_t l5, rt_slice l6, uint64_t l7)
 {
     struct table_read__reading__PlaceRead l0;
     uint64_t l8;
@@ -14078,60 +14556,64 @@ static inline uint64_t text__byte(rt_slice l1, uint64_t l2, uint8_t l3)
     return l0;
 }
 
-static const struct rt_array_uint8_9 text__command__l6 = { { UINT8_C(112), UINT8_C(117), UINT8_C(115), UINT8_C(104), UINT8_C(32), UINT8_C(116), UINT8_C(104), UINT8_C(105), UINT8_C(115) } };
-static const struct rt_array_uint8_3 text__command__l7 = { { UINT8_C(110), UINT8_C(111), UINT8_C(116) } };
+static const struct rt_array_uint8_9 text__command__l23 = { { UINT8_C(112), UINT8_C(117), UINT8_C(115), UINT8_C(104), UINT8_C(32), UINT8_C(116), UINT8_C(104), UINT8_C(105), UINT8_C(115) } };
+static const struct rt_array_uint8_3 text__command__l24 = { { UINT8_C(110), UINT8_C(111), UINT8_C(116) } };
 static inline uint64_t text__command(rt_slice l1, uint64_t l2, uint64_t l3)
 {
     uint64_t l0;
     uint64_t l4;
     uint64_t l5;
-    uint8_t l8;
-    uint8_t *l9;
-    rt_slice l10;
-    uint64_t l11;
-    uint64_t l12;
+    uint8_t l6;
+    uint8_t *l7;
+    rt_slice l8;
+    uint64_t l9;
+    uint64_t l10;
+    uint8_t *l11;
+    rt_slice l12;
     uint8_t *l13;
-    rt_slice l14;
-    uint8_t *l15;
-    rt_slice l16;
-    uint8_t *l17;
-    rt_slice l18;
+    uint8_t *l14;
+    rt_slice l15;
+    uint8_t *l16;
+    rt_slice l17;
+    uint8_t *l18;
     uint8_t *l19;
     rt_slice l20;
     uint8_t *l21;
     rt_slice l22;
     l4 = (uint64_t)((uint64_t)l3 % (uint64_t)UINT64_C(256));
     l5 = (uint64_t)((uint64_t)l3 / (uint64_t)UINT64_C(4294967296));
-    l8 = (uint8_t)(l4 == UINT64_C(1));
-    if (l8) {
-        l9 = (uint8_t *)&(*(uint8_t *)l1.p);
-        l10.p = l9;
-        l10.n = l1.n;
-        l11 = (uint64_t)((uint64_t)l3 / (uint64_t)UINT64_C(256));
-        l12 = (uint64_t)((uint64_t)l11 % (uint64_t)UINT64_C(256));
-        l0 = text__push(l10, l2, l12, l5);
+    l6 = (uint8_t)(l4 == UINT64_C(1));
+    if (l6) {
+        l7 = (uint8_t *)&(*(uint8_t *)l1.p);
+        l8.p = l7;
+        l8.n = l1.n;
+        l9 = (uint64_t)((uint64_t)l3 / (uint64_t)UINT64_C(256));
+        l10 = (uint64_t)((uint64_t)l9 % (uint64_t)UINT64_C(256));
+        l0 = text__push(l8, l2, l10, l5);
         return l0;
     }
-    l8 = (uint8_t)(l4 == UINT64_C(2));
-    if (l8) {
-        l13 = (uint8_t *)&(*(uint8_t *)l1.p);
-        l14.p = l13;
-        l14.n = l1.n;
-        l15 = (uint8_t *)&text__command__l6;
-        l16.p = l15;
-        l16.n = UINT64_C(9);
-        l0 = text__put(l14, l2, l16);
+    l6 = (uint8_t)(l4 == UINT64_C(2));
+    if (l6) {
+        l11 = (uint8_t *)&(*(uint8_t *)l1.p);
+        l12.p = l11;
+        l12.n = l1.n;
+        l13 = (uint8_t *)&text__command__l23;
+        l14 = (uint8_t *)&(*(uint8_t *)l13);
+        l15.p = l14;
+        l15.n = UINT64_C(9);
+        l0 = text__put(l12, l2, l15);
         return l0;
     }
-    l8 = (uint8_t)(l4 == UINT64_C(7));
-    if (l8) {
-        l17 = (uint8_t *)&(*(uint8_t *)l1.p);
-        l18.p = l17;
-        l18.n = l1.n;
-        l19 = (uint8_t *)&text__command__l7;
+    l6 = (uint8_t)(l4 == UINT64_C(7));
+    if (l6) {
+        l16 = (uint8_t *)&(*(uint8_t *)l1.p);
+        l17.p = l16;
+        l17.n = l1.n;
+        l18 = (uint8_t *)&text__command__l24;
+        l19 = (uint8_t *)&(*(uint8_t *)l18);
         l20.p = l19;
         l20.n = UINT64_C(3);
-        l0 = text__put(l18, l2, l20);
+        l0 = text__put(l17, l2, l20);
         return l0;
     }
     l21 = (uint8_t *)&(*(uint8_t *)l1.p);
@@ -14386,98 +14868,109 @@ static inline uint64_t text__lines__tail(rt_slice l1, uint64_t l2, rt_slice l3, 
     return l0;
 }
 
-static const struct rt_array_uint8_3 text__other__l5 = { { UINT8_C(114), UINT8_C(100), UINT8_C(32) } };
-static const struct rt_array_uint8_3 text__other__l6 = { { UINT8_C(119), UINT8_C(114), UINT8_C(32) } };
-static const struct rt_array_uint8_5 text__other__l7 = { { UINT8_C(99), UINT8_C(111), UINT8_C(110), UINT8_C(115), UINT8_C(32) } };
-static const struct rt_array_uint8_3 text__other__l8 = { { UINT8_C(105), UINT8_C(102), UINT8_C(32) } };
-static const struct rt_array_uint8_3 text__other__l9 = { { UINT8_C(111), UINT8_C(112), UINT8_C(32) } };
+static const struct rt_array_uint8_3 text__other__l31 = { { UINT8_C(114), UINT8_C(100), UINT8_C(32) } };
+static const struct rt_array_uint8_3 text__other__l32 = { { UINT8_C(119), UINT8_C(114), UINT8_C(32) } };
+static const struct rt_array_uint8_5 text__other__l33 = { { UINT8_C(99), UINT8_C(111), UINT8_C(110), UINT8_C(115), UINT8_C(32) } };
+static const struct rt_array_uint8_3 text__other__l34 = { { UINT8_C(105), UINT8_C(102), UINT8_C(32) } };
+static const struct rt_array_uint8_3 text__other__l35 = { { UINT8_C(111), UINT8_C(112), UINT8_C(32) } };
 static inline uint64_t text__other(rt_slice l1, uint64_t l2, uint64_t l3, uint64_t l4)
 {
     uint64_t l0;
-    uint8_t l10;
+    uint8_t l5;
+    uint8_t *l6;
+    rt_slice l7;
+    uint8_t *l8;
+    uint8_t *l9;
+    rt_slice l10;
     uint8_t *l11;
     rt_slice l12;
     uint8_t *l13;
-    rt_slice l14;
-    uint8_t *l15;
-    rt_slice l16;
-    uint8_t *l17;
-    rt_slice l18;
+    uint8_t *l14;
+    rt_slice l15;
+    uint8_t *l16;
+    rt_slice l17;
+    uint8_t *l18;
     uint8_t *l19;
     rt_slice l20;
     uint8_t *l21;
     rt_slice l22;
     uint8_t *l23;
-    rt_slice l24;
-    uint8_t *l25;
-    rt_slice l26;
-    uint8_t *l27;
-    rt_slice l28;
+    uint8_t *l24;
+    rt_slice l25;
+    uint8_t *l26;
+    rt_slice l27;
+    uint8_t *l28;
     uint8_t *l29;
     rt_slice l30;
-    l10 = (uint8_t)(l3 == UINT64_C(3));
-    if (l10) {
+    l5 = (uint8_t)(l3 == UINT64_C(3));
+    if (l5) {
+        l6 = (uint8_t *)&(*(uint8_t *)l1.p);
+        l7.p = l6;
+        l7.n = l1.n;
+        l8 = (uint8_t *)&text__other__l31;
+        l9 = (uint8_t *)&(*(uint8_t *)l8);
+        l10.p = l9;
+        l10.n = UINT64_C(3);
+        l0 = text__keyed(l7, l2, l10, l4);
+        return l0;
+    }
+    l5 = (uint8_t)(l3 == UINT64_C(4));
+    if (l5) {
         l11 = (uint8_t *)&(*(uint8_t *)l1.p);
         l12.p = l11;
         l12.n = l1.n;
-        l13 = (uint8_t *)&text__other__l5;
-        l14.p = l13;
-        l14.n = UINT64_C(3);
-        l0 = text__keyed(l12, l2, l14, l4);
+        l13 = (uint8_t *)&text__other__l32;
+        l14 = (uint8_t *)&(*(uint8_t *)l13);
+        l15.p = l14;
+        l15.n = UINT64_C(3);
+        l0 = text__keyed(l12, l2, l15, l4);
         return l0;
     }
-    l10 = (uint8_t)(l3 == UINT64_C(4));
-    if (l10) {
-        l15 = (uint8_t *)&(*(uint8_t *)l1.p);
-        l16.p = l15;
-        l16.n = l1.n;
-        l17 = (uint8_t *)&text__other__l6;
-        l18.p = l17;
-        l18.n = UINT64_C(3);
-        l0 = text__keyed(l16, l2, l18, l4);
-        return l0;
-    }
-    l10 = (uint8_t)(l3 == UINT64_C(5));
-    if (l10) {
-        l19 = (uint8_t *)&(*(uint8_t *)l1.p);
+    l5 = (uint8_t)(l3 == UINT64_C(5));
+    if (l5) {
+        l16 = (uint8_t *)&(*(uint8_t *)l1.p);
+        l17.p = l16;
+        l17.n = l1.n;
+        l18 = (uint8_t *)&text__other__l33;
+        l19 = (uint8_t *)&(*(uint8_t *)l18);
         l20.p = l19;
-        l20.n = l1.n;
-        l21 = (uint8_t *)&text__other__l7;
+        l20.n = UINT64_C(5);
+        l0 = text__keyed(l17, l2, l20, l4);
+        return l0;
+    }
+    l5 = (uint8_t)(l3 == UINT64_C(6));
+    if (l5) {
+        l21 = (uint8_t *)&(*(uint8_t *)l1.p);
         l22.p = l21;
-        l22.n = UINT64_C(5);
-        l0 = text__keyed(l20, l2, l22, l4);
+        l22.n = l1.n;
+        l23 = (uint8_t *)&text__other__l34;
+        l24 = (uint8_t *)&(*(uint8_t *)l23);
+        l25.p = l24;
+        l25.n = UINT64_C(3);
+        l0 = text__keyed(l22, l2, l25, l4);
         return l0;
     }
-    l10 = (uint8_t)(l3 == UINT64_C(6));
-    if (l10) {
-        l23 = (uint8_t *)&(*(uint8_t *)l1.p);
-        l24.p = l23;
-        l24.n = l1.n;
-        l25 = (uint8_t *)&text__other__l8;
-        l26.p = l25;
-        l26.n = UINT64_C(3);
-        l0 = text__keyed(l24, l2, l26, l4);
-        return l0;
-    }
-    l27 = (uint8_t *)&(*(uint8_t *)l1.p);
-    l28.p = l27;
-    l28.n = l1.n;
-    l29 = (uint8_t *)&text__other__l9;
+    l26 = (uint8_t *)&(*(uint8_t *)l1.p);
+    l27.p = l26;
+    l27.n = l1.n;
+    l28 = (uint8_t *)&text__other__l35;
+    l29 = (uint8_t *)&(*(uint8_t *)l28);
     l30.p = l29;
     l30.n = UINT64_C(3);
-    l0 = text__keyed(l28, l2, l30, l4);
+    l0 = text__keyed(l27, l2, l30, l4);
     return l0;
 }
 
-static const struct rt_array_uint8_5 text__push__l8 = { { UINT8_C(112), UINT8_C(117), UINT8_C(115), UINT8_C(104), UINT8_C(32) } };
+static const struct rt_array_uint8_5 text__push__l19 = { { UINT8_C(112), UINT8_C(117), UINT8_C(115), UINT8_C(104), UINT8_C(32) } };
 static inline uint64_t text__push(rt_slice l1, uint64_t l2, uint64_t l3, uint64_t l4)
 {
     uint64_t l0;
     uint64_t l5;
     uint64_t l6;
     uint64_t l7;
-    uint8_t *l9;
-    rt_slice l10;
+    uint8_t *l8;
+    rt_slice l9;
+    uint8_t *l10;
     uint8_t *l11;
     rt_slice l12;
     uint8_t *l13;
@@ -14486,13 +14979,14 @@ static inline uint64_t text__push(rt_slice l1, uint64_t l2, uint64_t l3, uint64_
     rt_slice l16;
     uint8_t *l17;
     rt_slice l18;
-    l9 = (uint8_t *)&(*(uint8_t *)l1.p);
-    l10.p = l9;
-    l10.n = l1.n;
-    l11 = (uint8_t *)&text__push__l8;
+    l8 = (uint8_t *)&(*(uint8_t *)l1.p);
+    l9.p = l8;
+    l9.n = l1.n;
+    l10 = (uint8_t *)&text__push__l19;
+    l11 = (uint8_t *)&(*(uint8_t *)l10);
     l12.p = l11;
     l12.n = UINT64_C(5);
-    l5 = text__put(l10, l2, l12);
+    l5 = text__put(l9, l2, l12);
     l13 = (uint8_t *)&(*(uint8_t *)l1.p);
     l14.p = l13;
     l14.n = l1.n;
@@ -14562,7 +15056,7 @@ static inline uint64_t text__value(rt_slice l1, uint64_t l2, uint64_t l3, uint64
     return l0;
 }
 
-static inline uint64_t text_place__place(rt_slice l1)
+static RT_APART uint64_t text_place__place(rt_slice l1)
 {
     uint64_t l0;
     uint64_t l2;
@@ -14733,7 +15227,7 @@ end1:;
     return l0;
 }
 
-static inline uint64_t text_place__unnamed(rt_slice l1, rt_slice l2, rt_slice l3)
+static RT_APART uint64_t text_place__unnamed(rt_slice l1, rt_slice l2, rt_slice l3)
 {
     uint64_t l0;
     struct rt_array_uint8_65536 l4;
@@ -14774,7 +15268,7 @@ static inline uint64_t text_place__unnamed(rt_slice l1, rt_slice l2, rt_slice l3
     return l0;
 }
 
-static inline struct trace_images__Traced trace_images__begun(struct seating__Opened l1, rt_slice l2, rt_slice l3, rt_slice l4, rt_slice l5, uint64_t l6, rt_slice l7)
+static RT_APART struct trace_images__Traced trace_images__begun(struct seating__Opened l1, rt_slice l2, rt_slice l3, rt_slice l4, rt_slice l5, uint64_t l6, rt_slice l7)
 {
     struct trace_images__Traced l0;
     struct load__Loaded l8;
@@ -14811,9 +15305,16 @@ static inline struct trace_images__Traced trace_images__begun(struct seating__Op
     rt_slice l39;
     uint8_t *l40;
     rt_slice l41;
-    uint8_t *l42;
-    rt_slice l43;
-    l8 = l1.f0;
+    struct trace_images__pages__Page l42;
+    uint8_t *l43;
+    rt_slice l44;
+    l8.f0 = l1.f0.f0;
+    l8.f1 = l1.f0.f1;
+    l8.f2 = l1.f0.f2;
+    l8.f3 = l1.f0.f3;
+    l8.f4 = l1.f0.f4;
+    l8.f5 = l1.f0.f5;
+    l8.f6 = l1.f0.f6;
     l9 = l1.f1;
     l10 = l1.f2;
     l11 = (uint64_t)l8.f3;
@@ -14835,7 +15336,14 @@ static inline struct trace_images__Traced trace_images__begun(struct seating__Op
     l17 = trace_images__seated(l8.f1, l13, l14, l4, l26, l28);
     switch (l17.tag) {
         case UINT8_C(0): {
-            l18 = l17.s0;
+            l18.f0 = l17.s0.f0;
+            l18.f1.f0 = l17.s0.f1.f0;
+            l18.f1.f1 = l17.s0.f1.f1;
+            l18.f1.f2 = l17.s0.f1.f2;
+            l18.f1.f3 = l17.s0.f1.f3;
+            l18.f1.f4 = l17.s0.f1.f4;
+            l18.f1.f5 = l17.s0.f1.f5;
+            l18.f1.f6 = l17.s0.f1.f6;
             break;
         }
         case UINT8_C(1): default: {
@@ -14857,7 +15365,15 @@ static inline struct trace_images__Traced trace_images__begun(struct seating__Op
         l0 = trace_images__pages__refused(UINT8_C(14), l6, l35);
         return l0;
     }
-    l19 = l1;
+    l19.f0.f0 = l1.f0.f0;
+    l19.f0.f1 = l1.f0.f1;
+    l19.f0.f2 = l1.f0.f2;
+    l19.f0.f3 = l1.f0.f3;
+    l19.f0.f4 = l1.f0.f4;
+    l19.f0.f5 = l1.f0.f5;
+    l19.f0.f6 = l1.f0.f6;
+    l19.f1 = l1.f1;
+    l19.f2 = l1.f2;
     l20.f0 = l19;
     l20.f1 = l18;
     l20.f2 = l6;
@@ -14871,15 +15387,26 @@ static inline struct trace_images__Traced trace_images__begun(struct seating__Op
     l41.p = l40;
     l41.n = l7.n;
     l21 = trace_images__telling__play(l2, l3, l20, l37, l39, l5, l41);
-    l22 = l21.f0;
-    l42 = (uint8_t *)&(*(uint8_t *)l7.p);
-    l43.p = l42;
-    l43.n = l7.n;
-    l0 = trace_images__pages__ended(l21.f3, l21.f1, l22.f2, l43);
+    l22.f0.f0.f0 = l21.f0.f0.f0.f0;
+    l22.f0.f0.f1 = l21.f0.f0.f0.f1;
+    l22.f0.f0.f2 = l21.f0.f0.f0.f2;
+    l22.f0.f0.f3 = l21.f0.f0.f0.f3;
+    l22.f0.f0.f4 = l21.f0.f0.f0.f4;
+    l22.f0.f0.f5 = l21.f0.f0.f0.f5;
+    l22.f0.f0.f6 = l21.f0.f0.f0.f6;
+    l22.f1 = l21.f0.f1;
+    l22.f2 = l21.f0.f2;
+    l22.f3 = l21.f0.f3;
+    l42.f0 = l21.f3.f0;
+    l42.f1 = l21.f3.f1;
+    l43 = (uint8_t *)&(*(uint8_t *)l7.p);
+    l44.p = l43;
+    l44.n = l7.n;
+    l0 = trace_images__pages__ended(l42, l21.f1, l22.f2, l44);
     return l0;
 }
 
-static inline struct trace_images__pages__Page trace_images__pages__blank(uint64_t l1)
+static RT_HERE struct trace_images__pages__Page trace_images__pages__blank(uint64_t l1)
 {
     struct trace_images__pages__Page l0;
     l0.f0 = l1;
@@ -14887,16 +15414,17 @@ static inline struct trace_images__pages__Page trace_images__pages__blank(uint64
     return l0;
 }
 
-static const struct rt_array_uint8_3 trace_images__pages__ended__l9 = { { UINT8_C(101), UINT8_C(110), UINT8_C(100) } };
-static inline struct trace_images__Traced trace_images__pages__ended(struct trace_images__pages__Page l1, uint8_t l2, uint64_t l3, rt_slice l4)
+static const struct rt_array_uint8_3 trace_images__pages__ended__l26 = { { UINT8_C(101), UINT8_C(110), UINT8_C(100) } };
+static RT_HERE struct trace_images__Traced trace_images__pages__ended(struct trace_images__pages__Page l1, uint8_t l2, uint64_t l3, rt_slice l4)
 {
     struct trace_images__Traced l0;
     struct rt_array_uint8_1024 l5;
     uint64_t l6;
     struct trace_images__pages__Page l7;
     uint64_t l8;
-    uint8_t *l10;
-    rt_slice l11;
+    uint8_t *l9;
+    rt_slice l10;
+    uint8_t *l11;
     uint8_t *l12;
     rt_slice l13;
     struct rt_array_uint64_2 l14;
@@ -14912,10 +15440,11 @@ static inline struct trace_images__Traced trace_images__pages__ended(struct trac
     uint64_t l24;
     uint32_t l25;
     memset(&l5, 0, sizeof l5);
-    l10 = (uint8_t *)&l5;
-    l11.p = l10;
-    l11.n = UINT64_C(1024);
-    l12 = (uint8_t *)&trace_images__pages__ended__l9;
+    l9 = (uint8_t *)&l5;
+    l10.p = l9;
+    l10.n = UINT64_C(1024);
+    l11 = (uint8_t *)&trace_images__pages__ended__l26;
+    l12 = (uint8_t *)&(*(uint8_t *)l11);
     l13.p = l12;
     l13.n = UINT64_C(3);
     l15 = (uint64_t)l2;
@@ -14924,7 +15453,7 @@ static inline struct trace_images__Traced trace_images__pages__ended(struct trac
     l17 = (uint8_t *)&l14;
     l18.p = l17;
     l18.n = UINT64_C(2);
-    l6 = text__lines__row(l11, UINT64_C(0), l13, l18);
+    l6 = text__lines__row(l10, UINT64_C(0), l13, l18);
     l19 = (uint8_t *)&l5;
     l20.p = l19;
     l20.n = l6;
@@ -14969,7 +15498,7 @@ static inline uint64_t trace_images__pages__minus(uint64_t l1, uint64_t l2)
     return l0;
 }
 
-static inline struct trace_images__pages__Page trace_images__pages__put(struct trace_images__pages__Page l1, rt_slice l2, rt_slice l3)
+static RT_HERE struct trace_images__pages__Page trace_images__pages__put(struct trace_images__pages__Page l1, rt_slice l2, rt_slice l3)
 {
     struct trace_images__pages__Page l0;
     uint64_t l4;
@@ -15013,7 +15542,7 @@ static inline struct trace_images__pages__Page trace_images__pages__put(struct t
     return l0;
 }
 
-static inline struct trace_images__Traced trace_images__pages__refused(uint8_t l1, uint64_t l2, rt_slice l3)
+static RT_HERE struct trace_images__Traced trace_images__pages__refused(uint8_t l1, uint64_t l2, rt_slice l3)
 {
     struct trace_images__Traced l0;
     struct trace_images__pages__Page l4;
@@ -15027,7 +15556,7 @@ static inline struct trace_images__Traced trace_images__pages__refused(uint8_t l
     return l0;
 }
 
-static inline struct seating__SeatRead trace_images__seated(uint64_t l1, rt_slice l2, rt_slice l3, rt_slice l4, rt_slice l5, rt_slice l6)
+static RT_APART struct seating__SeatRead trace_images__seated(uint64_t l1, rt_slice l2, rt_slice l3, rt_slice l4, rt_slice l5, rt_slice l6)
 {
     struct seating__SeatRead l0;
     struct rt_array_uint8_8568 l7;
@@ -15051,7 +15580,7 @@ static inline struct seating__SeatRead trace_images__seated(uint64_t l1, rt_slic
     return l0;
 }
 
-static inline struct trace_images__telling__Telling trace_images__telling__behind(struct engine__Machine l1, uint64_t l2, uint64_t l3, struct trace_images__pages__Page l4)
+static RT_HERE struct trace_images__telling__Telling trace_images__telling__behind(struct engine__Machine l1, uint64_t l2, uint64_t l3, struct trace_images__pages__Page l4)
 {
     struct trace_images__telling__Telling l0;
     struct trace_lines__Coming l5;
@@ -15066,14 +15595,20 @@ static inline struct trace_images__telling__Telling trace_images__telling__behin
     return l0;
 }
 
-static inline struct trace_images__telling__Telling trace_images__telling__first(struct trace_images__telling__Start l1)
+static RT_HERE struct trace_images__telling__Telling trace_images__telling__first(struct trace_images__telling__Start l1)
 {
     struct trace_images__telling__Telling l0;
     struct layout__Numbers l2;
     struct engine__Machine l3;
     struct trace_lines__Coming l4;
     struct trace_images__pages__Page l5;
-    l2 = l1.f1.f1;
+    l2.f0 = l1.f1.f1.f0;
+    l2.f1 = l1.f1.f1.f1;
+    l2.f2 = l1.f1.f1.f2;
+    l2.f3 = l1.f1.f1.f3;
+    l2.f4 = l1.f1.f1.f4;
+    l2.f5 = l1.f1.f1.f5;
+    l2.f6 = l1.f1.f1.f6;
     l3.f0 = l2;
     l4.f0 = l3;
     l4.f1 = UINT64_C(0);
@@ -15087,7 +15622,7 @@ static inline struct trace_images__telling__Telling trace_images__telling__first
     return l0;
 }
 
-static inline struct trace_images__telling__Telling trace_images__telling__moved(struct trace_images__telling__Telling l1, rt_slice l2, rt_slice l3, rt_slice l4, rt_slice l5)
+static RT_HERE struct trace_images__telling__Telling trace_images__telling__moved(struct trace_images__telling__Telling l1, rt_slice l2, rt_slice l3, rt_slice l4, rt_slice l5)
 {
     struct trace_images__telling__Telling l0;
     struct trace_lines__Coming l6;
@@ -15101,12 +15636,28 @@ static inline struct trace_images__telling__Telling trace_images__telling__moved
     rt_slice l14;
     uint8_t *l15;
     rt_slice l16;
-    uint8_t *l17;
-    rt_slice l18;
-    uint8_t *l19;
-    rt_slice l20;
-    l6 = l1.f0;
-    l7 = l6.f0;
+    struct trace_images__pages__Page l17;
+    uint8_t *l18;
+    rt_slice l19;
+    uint8_t *l20;
+    rt_slice l21;
+    l6.f0.f0.f0 = l1.f0.f0.f0.f0;
+    l6.f0.f0.f1 = l1.f0.f0.f0.f1;
+    l6.f0.f0.f2 = l1.f0.f0.f0.f2;
+    l6.f0.f0.f3 = l1.f0.f0.f0.f3;
+    l6.f0.f0.f4 = l1.f0.f0.f0.f4;
+    l6.f0.f0.f5 = l1.f0.f0.f0.f5;
+    l6.f0.f0.f6 = l1.f0.f0.f0.f6;
+    l6.f1 = l1.f0.f1;
+    l6.f2 = l1.f0.f2;
+    l6.f3 = l1.f0.f3;
+    l7.f0.f0 = l6.f0.f0.f0;
+    l7.f0.f1 = l6.f0.f0.f1;
+    l7.f0.f2 = l6.f0.f0.f2;
+    l7.f0.f3 = l6.f0.f0.f3;
+    l7.f0.f4 = l6.f0.f0.f4;
+    l7.f0.f5 = l6.f0.f0.f5;
+    l7.f0.f6 = l6.f0.f0.f6;
     memset(&l8, 0, sizeof l8);
     l13 = (uint8_t *)&(*(uint16_t *)l4.p);
     l14.p = l13;
@@ -15115,20 +15666,28 @@ static inline struct trace_images__telling__Telling trace_images__telling__moved
     l16.p = l15;
     l16.n = UINT64_C(1024);
     l9 = trace_lines__advance(l7, l6.f1, l2, l3, l14, l16);
-    l10 = l9.f0;
+    l10.f0.f0 = l9.f0.f0.f0;
+    l10.f0.f1 = l9.f0.f0.f1;
+    l10.f0.f2 = l9.f0.f0.f2;
+    l10.f0.f3 = l9.f0.f0.f3;
+    l10.f0.f4 = l9.f0.f0.f4;
+    l10.f0.f5 = l9.f0.f0.f5;
+    l10.f0.f6 = l9.f0.f0.f6;
     l11 = l9.f2;
-    l17 = (uint8_t *)&l8;
-    l18.p = l17;
-    l18.n = l11;
-    l19 = (uint8_t *)&(*(uint8_t *)l5.p);
-    l20.p = l19;
-    l20.n = l5.n;
-    l12 = trace_images__pages__put(l1.f3, l18, l20);
+    l17.f0 = l1.f3.f0;
+    l17.f1 = l1.f3.f1;
+    l18 = (uint8_t *)&l8;
+    l19.p = l18;
+    l19.n = l11;
+    l20 = (uint8_t *)&(*(uint8_t *)l5.p);
+    l21.p = l20;
+    l21.n = l5.n;
+    l12 = trace_images__pages__put(l17, l19, l21);
     l0 = trace_images__telling__behind(l10, l9.f1, l6.f2, l12);
     return l0;
 }
 
-static inline struct trace_images__telling__Telling trace_images__telling__play(rt_slice l1, rt_slice l2, struct trace_images__telling__Start l3, rt_slice l4, rt_slice l5, rt_slice l6, rt_slice l7)
+static RT_APART struct trace_images__telling__Telling trace_images__telling__play(rt_slice l1, rt_slice l2, struct trace_images__telling__Start l3, rt_slice l4, rt_slice l5, rt_slice l6, rt_slice l7)
 {
     struct trace_images__telling__Telling l0;
     struct seating__Opened l8;
@@ -15179,9 +15738,23 @@ static inline struct trace_images__telling__Telling trace_images__telling__play(
     rt_slice l54;
     uint8_t *l55;
     rt_slice l56;
-    l8 = l3.f0;
+    l8.f0.f0 = l3.f0.f0.f0;
+    l8.f0.f1 = l3.f0.f0.f1;
+    l8.f0.f2 = l3.f0.f0.f2;
+    l8.f0.f3 = l3.f0.f0.f3;
+    l8.f0.f4 = l3.f0.f0.f4;
+    l8.f0.f5 = l3.f0.f0.f5;
+    l8.f0.f6 = l3.f0.f0.f6;
+    l8.f1 = l3.f0.f1;
+    l8.f2 = l3.f0.f2;
     l9 = l8.f1;
-    l10 = l8.f0;
+    l10.f0 = l8.f0.f0;
+    l10.f1 = l8.f0.f1;
+    l10.f2 = l8.f0.f2;
+    l10.f3 = l8.f0.f3;
+    l10.f4 = l8.f0.f4;
+    l10.f5 = l8.f0.f5;
+    l10.f6 = l8.f0.f6;
     l11 = (uint64_t)l10.f3;
     l20 = (uint8_t *)&l9;
     l12.p = l20;
@@ -15197,7 +15770,14 @@ static inline struct trace_images__telling__Telling trace_images__telling__play(
     l26.p = l25;
     l26.n = UINT64_C(129);
     compile__program(l1, l10.f2, l11, l2, l22, l24, l26);
-    l16 = l3.f1;
+    l16.f0 = l3.f1.f0;
+    l16.f1.f0 = l3.f1.f1.f0;
+    l16.f1.f1 = l3.f1.f1.f1;
+    l16.f1.f2 = l3.f1.f1.f2;
+    l16.f1.f3 = l3.f1.f1.f3;
+    l16.f1.f4 = l3.f1.f1.f4;
+    l16.f1.f5 = l3.f1.f1.f5;
+    l16.f1.f6 = l3.f1.f1.f6;
     l27 = (uint8_t *)&l13;
     l28.p = l27;
     l28.n = UINT64_C(1024);
@@ -15258,17 +15838,40 @@ static inline struct trace_images__telling__Telling trace_images__telling__play(
         }
     }
 end1:;
-    l0 = l18;
+    l0.f0.f0.f0.f0 = l18.f0.f0.f0.f0;
+    l0.f0.f0.f0.f1 = l18.f0.f0.f0.f1;
+    l0.f0.f0.f0.f2 = l18.f0.f0.f0.f2;
+    l0.f0.f0.f0.f3 = l18.f0.f0.f0.f3;
+    l0.f0.f0.f0.f4 = l18.f0.f0.f0.f4;
+    l0.f0.f0.f0.f5 = l18.f0.f0.f0.f5;
+    l0.f0.f0.f0.f6 = l18.f0.f0.f0.f6;
+    l0.f0.f1 = l18.f0.f1;
+    l0.f0.f2 = l18.f0.f2;
+    l0.f0.f3 = l18.f0.f3;
+    l0.f1 = l18.f1;
+    l0.f2 = l18.f2;
+    l0.f3.f0 = l18.f3.f0;
+    l0.f3.f1 = l18.f3.f1;
     return l0;
 }
 
-static inline struct trace_images__telling__Telling trace_images__telling__resting(struct trace_images__telling__Telling l1, uint8_t l2)
+static RT_HERE struct trace_images__telling__Telling trace_images__telling__resting(struct trace_images__telling__Telling l1, uint8_t l2)
 {
     struct trace_images__telling__Telling l0;
     struct trace_lines__Coming l3;
     struct trace_images__pages__Page l4;
-    l3 = l1.f0;
-    l4 = l1.f3;
+    l3.f0.f0.f0 = l1.f0.f0.f0.f0;
+    l3.f0.f0.f1 = l1.f0.f0.f0.f1;
+    l3.f0.f0.f2 = l1.f0.f0.f0.f2;
+    l3.f0.f0.f3 = l1.f0.f0.f0.f3;
+    l3.f0.f0.f4 = l1.f0.f0.f0.f4;
+    l3.f0.f0.f5 = l1.f0.f0.f0.f5;
+    l3.f0.f0.f6 = l1.f0.f0.f0.f6;
+    l3.f1 = l1.f0.f1;
+    l3.f2 = l1.f0.f2;
+    l3.f3 = l1.f0.f3;
+    l4.f0 = l1.f3.f0;
+    l4.f1 = l1.f3.f1;
     l0.f0 = l3;
     l0.f1 = l2;
     l0.f2 = 0;
@@ -15276,79 +15879,144 @@ static inline struct trace_images__telling__Telling trace_images__telling__resti
     return l0;
 }
 
-static inline struct trace_images__telling__Telling trace_images__telling__settle(struct trace_images__telling__Telling l1, rt_slice l2, rt_slice l3, rt_slice l4, rt_slice l5)
+static RT_HERE struct trace_images__telling__Telling trace_images__telling__settle(struct trace_images__telling__Telling l1, rt_slice l2, rt_slice l3, rt_slice l4, rt_slice l5)
 {
     struct trace_images__telling__Telling l0;
     struct trace_images__telling__Telling l6;
     uint64_t l7;
     uint8_t l8;
-    uint8_t l9;
-    uint64_t l10;
-    uint8_t *l11;
-    uint64_t l12;
-    uint8_t *l13;
-    rt_slice l14;
-    uint8_t *l15;
-    rt_slice l16;
-    l6 = l1;
+    struct layout__Numbers l9;
+    uint8_t l10;
+    uint64_t l11;
+    uint8_t *l12;
+    uint64_t l13;
+    uint8_t *l14;
+    rt_slice l15;
+    uint8_t *l16;
+    rt_slice l17;
+    l6.f0.f0.f0.f0 = l1.f0.f0.f0.f0;
+    l6.f0.f0.f0.f1 = l1.f0.f0.f0.f1;
+    l6.f0.f0.f0.f2 = l1.f0.f0.f0.f2;
+    l6.f0.f0.f0.f3 = l1.f0.f0.f0.f3;
+    l6.f0.f0.f0.f4 = l1.f0.f0.f0.f4;
+    l6.f0.f0.f0.f5 = l1.f0.f0.f0.f5;
+    l6.f0.f0.f0.f6 = l1.f0.f0.f0.f6;
+    l6.f0.f1 = l1.f0.f1;
+    l6.f0.f2 = l1.f0.f2;
+    l6.f0.f3 = l1.f0.f3;
+    l6.f1 = l1.f1;
+    l6.f2 = l1.f2;
+    l6.f3.f0 = l1.f3.f0;
+    l6.f3.f1 = l1.f3.f1;
     for (;;) {
-        l8 = layout__due(l6.f0.f0.f0);
-        l9 = (uint8_t)!l8;
-        if (l9) {
+        l9.f0 = l6.f0.f0.f0.f0;
+        l9.f1 = l6.f0.f0.f0.f1;
+        l9.f2 = l6.f0.f0.f0.f2;
+        l9.f3 = l6.f0.f0.f0.f3;
+        l9.f4 = l6.f0.f0.f0.f4;
+        l9.f5 = l6.f0.f0.f0.f5;
+        l9.f6 = l6.f0.f0.f0.f6;
+        l8 = layout__due(l9);
+        l10 = (uint8_t)!l8;
+        if (l10) {
         } else {
             goto end1;
         }
         l7 = l6.f0.f0.f0.f1;
-        l10 = (uint64_t)((uint64_t)l7 * (uint64_t)UINT64_C(8));
-        l11 = l2.p + (size_t)l10;
-        l12 = (*(uint64_t *)l11);
-        l8 = (uint8_t)(l12 == UINT64_C(1025));
+        l11 = (uint64_t)((uint64_t)l7 * (uint64_t)UINT64_C(8));
+        l12 = l2.p + (size_t)l11;
+        l13 = (*(uint64_t *)l12);
+        l8 = (uint8_t)(l13 == UINT64_C(1025));
         if (l8) {
-            l0 = l6;
+            l0.f0.f0.f0.f0 = l6.f0.f0.f0.f0;
+            l0.f0.f0.f0.f1 = l6.f0.f0.f0.f1;
+            l0.f0.f0.f0.f2 = l6.f0.f0.f0.f2;
+            l0.f0.f0.f0.f3 = l6.f0.f0.f0.f3;
+            l0.f0.f0.f0.f4 = l6.f0.f0.f0.f4;
+            l0.f0.f0.f0.f5 = l6.f0.f0.f0.f5;
+            l0.f0.f0.f0.f6 = l6.f0.f0.f0.f6;
+            l0.f0.f1 = l6.f0.f1;
+            l0.f0.f2 = l6.f0.f2;
+            l0.f0.f3 = l6.f0.f3;
+            l0.f1 = l6.f1;
+            l0.f2 = l6.f2;
+            l0.f3.f0 = l6.f3.f0;
+            l0.f3.f1 = l6.f3.f1;
             return l0;
         }
-        l13 = (uint8_t *)&(*(uint16_t *)l4.p);
-        l14.p = l13;
-        l14.n = l4.n;
-        l15 = (uint8_t *)&(*(uint8_t *)l5.p);
-        l16.p = l15;
-        l16.n = l5.n;
-        l6 = trace_images__telling__moved(l6, l2, l3, l14, l16);
+        l14 = (uint8_t *)&(*(uint16_t *)l4.p);
+        l15.p = l14;
+        l15.n = l4.n;
+        l16 = (uint8_t *)&(*(uint8_t *)l5.p);
+        l17.p = l16;
+        l17.n = l5.n;
+        l6 = trace_images__telling__moved(l6, l2, l3, l15, l17);
     }
 end1:;
-    l0 = l6;
+    l0.f0.f0.f0.f0 = l6.f0.f0.f0.f0;
+    l0.f0.f0.f0.f1 = l6.f0.f0.f0.f1;
+    l0.f0.f0.f0.f2 = l6.f0.f0.f0.f2;
+    l0.f0.f0.f0.f3 = l6.f0.f0.f0.f3;
+    l0.f0.f0.f0.f4 = l6.f0.f0.f0.f4;
+    l0.f0.f0.f0.f5 = l6.f0.f0.f0.f5;
+    l0.f0.f0.f0.f6 = l6.f0.f0.f0.f6;
+    l0.f0.f1 = l6.f0.f1;
+    l0.f0.f2 = l6.f0.f2;
+    l0.f0.f3 = l6.f0.f3;
+    l0.f1 = l6.f1;
+    l0.f2 = l6.f2;
+    l0.f3.f0 = l6.f3.f0;
+    l0.f3.f1 = l6.f3.f1;
     return l0;
 }
 
-static inline struct trace_images__telling__Telling trace_images__telling__told_at(struct trace_images__telling__Telling l1, rt_slice l2)
+static RT_HERE struct trace_images__telling__Telling trace_images__telling__told_at(struct trace_images__telling__Telling l1, rt_slice l2)
 {
     struct trace_images__telling__Telling l0;
     struct trace_lines__Coming l3;
     uint64_t l4;
     struct trace_images__pages__Page l5;
     uint8_t l6;
-    uint8_t l7;
-    uint64_t l8;
-    uint8_t *l9;
-    uint8_t l10;
-    l3 = l1.f0;
-    l6 = layout__due(l3.f0.f0);
-    l7 = (uint8_t)!l6;
-    if (l7) {
+    struct layout__Numbers l7;
+    uint8_t l8;
+    uint64_t l9;
+    uint8_t *l10;
+    uint8_t l11;
+    l3.f0.f0.f0 = l1.f0.f0.f0.f0;
+    l3.f0.f0.f1 = l1.f0.f0.f0.f1;
+    l3.f0.f0.f2 = l1.f0.f0.f0.f2;
+    l3.f0.f0.f3 = l1.f0.f0.f0.f3;
+    l3.f0.f0.f4 = l1.f0.f0.f0.f4;
+    l3.f0.f0.f5 = l1.f0.f0.f0.f5;
+    l3.f0.f0.f6 = l1.f0.f0.f0.f6;
+    l3.f1 = l1.f0.f1;
+    l3.f2 = l1.f0.f2;
+    l3.f3 = l1.f0.f3;
+    l7.f0 = l3.f0.f0.f0;
+    l7.f1 = l3.f0.f0.f1;
+    l7.f2 = l3.f0.f0.f2;
+    l7.f3 = l3.f0.f0.f3;
+    l7.f4 = l3.f0.f0.f4;
+    l7.f5 = l3.f0.f0.f5;
+    l7.f6 = l3.f0.f0.f6;
+    l6 = layout__due(l7);
+    l8 = (uint8_t)!l6;
+    if (l8) {
         l0 = trace_images__telling__resting(l1, UINT8_C(0));
         return l0;
     }
     l4 = l3.f2;
-    l8 = l2.n;
-    l6 = (uint8_t)(l8 <= l4);
+    l9 = l2.n;
+    l6 = (uint8_t)(l9 <= l4);
     if (l6) {
         l0 = trace_images__telling__resting(l1, UINT8_C(33));
         return l0;
     }
-    l9 = l2.p + (size_t)l4;
-    l10 = (*(uint8_t *)l9);
-    l3.f3 = l10;
-    l5 = l1.f3;
+    l10 = l2.p + (size_t)l4;
+    l11 = (*(uint8_t *)l10);
+    l3.f3 = l11;
+    l5.f0 = l1.f3.f0;
+    l5.f1 = l1.f3.f1;
     l0.f0 = l3;
     l0.f1 = UINT8_C(0);
     l0.f2 = 1;
@@ -15356,7 +16024,7 @@ static inline struct trace_images__telling__Telling trace_images__telling__told_
     return l0;
 }
 
-static inline struct trace_images__telling__Telling trace_images__telling__turn(struct trace_images__telling__Telling l1, rt_slice l2, rt_slice l3, rt_slice l4, rt_slice l5, rt_slice l6, rt_slice l7)
+static RT_HERE struct trace_images__telling__Telling trace_images__telling__turn(struct trace_images__telling__Telling l1, rt_slice l2, rt_slice l3, rt_slice l4, rt_slice l5, rt_slice l6, rt_slice l7)
 {
     struct trace_images__telling__Telling l0;
     struct trace_lines__Coming l8;
@@ -15372,12 +16040,23 @@ static inline struct trace_images__telling__Telling trace_images__telling__turn(
     uint8_t *l18;
     rt_slice l19;
     uint8_t l20;
-    uint8_t *l21;
-    rt_slice l22;
+    struct trace_images__pages__Page l21;
+    struct trace_images__pages__Page l22;
     uint8_t *l23;
     rt_slice l24;
-    uint64_t l25;
-    l8 = l1.f0;
+    uint8_t *l25;
+    rt_slice l26;
+    uint64_t l27;
+    l8.f0.f0.f0 = l1.f0.f0.f0.f0;
+    l8.f0.f0.f1 = l1.f0.f0.f0.f1;
+    l8.f0.f0.f2 = l1.f0.f0.f0.f2;
+    l8.f0.f0.f3 = l1.f0.f0.f0.f3;
+    l8.f0.f0.f4 = l1.f0.f0.f0.f4;
+    l8.f0.f0.f5 = l1.f0.f0.f0.f5;
+    l8.f0.f0.f6 = l1.f0.f0.f0.f6;
+    l8.f1 = l1.f0.f1;
+    l8.f2 = l1.f0.f2;
+    l8.f3 = l1.f0.f3;
     memset(&l9, 0, sizeof l9);
     l14 = (uint8_t *)&(*(uint16_t *)l5.p);
     l15.p = l14;
@@ -15389,26 +16068,36 @@ static inline struct trace_images__telling__Telling trace_images__telling__turn(
     l19.p = l18;
     l19.n = UINT64_C(1024);
     l10 = trace_lines__turn(l8, l2, l3, l4, l15, l17, l19);
-    l11 = l10.f0;
+    l11.f0.f0 = l10.f0.f0.f0;
+    l11.f0.f1 = l10.f0.f0.f1;
+    l11.f0.f2 = l10.f0.f0.f2;
+    l11.f0.f3 = l10.f0.f0.f3;
+    l11.f0.f4 = l10.f0.f0.f4;
+    l11.f0.f5 = l10.f0.f0.f5;
+    l11.f0.f6 = l10.f0.f0.f6;
     l20 = (uint8_t)(l11.f0.f4 != UINT8_C(0));
     if (l20) {
-        l0 = trace_images__telling__behind(l11, l8.f1, l8.f2, l1.f3);
+        l21.f0 = l1.f3.f0;
+        l21.f1 = l1.f3.f1;
+        l0 = trace_images__telling__behind(l11, l8.f1, l8.f2, l21);
         return l0;
     }
     l12 = l10.f2;
-    l21 = (uint8_t *)&l9;
-    l22.p = l21;
-    l22.n = l12;
-    l23 = (uint8_t *)&(*(uint8_t *)l7.p);
+    l22.f0 = l1.f3.f0;
+    l22.f1 = l1.f3.f1;
+    l23 = (uint8_t *)&l9;
     l24.p = l23;
-    l24.n = l7.n;
-    l13 = trace_images__pages__put(l1.f3, l22, l24);
-    l25 = (uint64_t)((uint64_t)l8.f2 + (uint64_t)UINT64_C(1));
-    l0 = trace_images__telling__behind(l11, l8.f1, l25, l13);
+    l24.n = l12;
+    l25 = (uint8_t *)&(*(uint8_t *)l7.p);
+    l26.p = l25;
+    l26.n = l7.n;
+    l13 = trace_images__pages__put(l22, l24, l26);
+    l27 = (uint64_t)((uint64_t)l8.f2 + (uint64_t)UINT64_C(1));
+    l0 = trace_images__telling__behind(l11, l8.f1, l27, l13);
     return l0;
 }
 
-static inline struct trace_images__Traced trace_images__trace(rt_slice l1, rt_slice l2, rt_slice l3, uint64_t l4, rt_slice l5)
+static RT_APART struct trace_images__Traced trace_images__trace(rt_slice l1, rt_slice l2, rt_slice l3, uint64_t l4, rt_slice l5)
 {
     struct trace_images__Traced l0;
     struct rt_array_uint8_5730 l6;
@@ -15457,7 +16146,13 @@ static inline struct trace_images__Traced trace_images__trace(rt_slice l1, rt_sl
     l10 = seating__admit(l1, l15, l17, l19, l21);
     switch (l10.tag) {
         case UINT8_C(0): {
-            l11 = l10.s0;
+            l11.f0 = l10.s0.f0;
+            l11.f1 = l10.s0.f1;
+            l11.f2 = l10.s0.f2;
+            l11.f3 = l10.s0.f3;
+            l11.f4 = l10.s0.f4;
+            l11.f5 = l10.s0.f5;
+            l11.f6 = l10.s0.f6;
             break;
         }
         case UINT8_C(1): default: {
@@ -15489,7 +16184,7 @@ static inline struct trace_images__Traced trace_images__trace(rt_slice l1, rt_sl
     return l0;
 }
 
-static inline struct trace_lines__Told trace_lines__advance(struct engine__Machine l1, uint64_t l2, rt_slice l3, rt_slice l4, rt_slice l5, rt_slice l6)
+static RT_HERE struct trace_lines__Told trace_lines__advance(struct engine__Machine l1, uint64_t l2, rt_slice l3, rt_slice l4, rt_slice l5, rt_slice l6)
 {
     struct trace_lines__Told l0;
     struct layout__Numbers l7;
@@ -15505,7 +16200,13 @@ static inline struct trace_lines__Told trace_lines__advance(struct engine__Machi
     rt_slice l17;
     uint8_t *l18;
     rt_slice l19;
-    l7 = l1.f0;
+    l7.f0 = l1.f0.f0;
+    l7.f1 = l1.f0.f1;
+    l7.f2 = l1.f0.f2;
+    l7.f3 = l1.f0.f3;
+    l7.f4 = l1.f0.f4;
+    l7.f5 = l1.f0.f5;
+    l7.f6 = l1.f0.f6;
     l8 = l7.f1;
     l13 = (uint64_t)((uint64_t)l8 * (uint64_t)UINT64_C(8));
     l14 = l3.p + (size_t)l13;
@@ -15515,7 +16216,13 @@ static inline struct trace_lines__Told trace_lines__advance(struct engine__Machi
     l17.p = l16;
     l17.n = l5.n;
     l10 = engine__Machine__advance(l1, l3, l4, l17);
-    l11 = l10.f0;
+    l11.f0 = l10.f0.f0;
+    l11.f1 = l10.f0.f1;
+    l11.f2 = l10.f0.f2;
+    l11.f3 = l10.f0.f3;
+    l11.f4 = l10.f0.f4;
+    l11.f5 = l10.f0.f5;
+    l11.f6 = l10.f0.f6;
     l18 = (uint8_t *)&(*(uint8_t *)l6.p);
     l19.p = l18;
     l19.n = l6.n;
@@ -15526,8 +16233,8 @@ static inline struct trace_lines__Told trace_lines__advance(struct engine__Machi
     return l0;
 }
 
-static const struct rt_array_uint8_2 trace_lines__back__l12 = { { UINT8_C(32), UINT8_C(93) } };
-static const struct rt_array_uint8_1 trace_lines__back__l13 = { { UINT8_C(10) } };
+static const struct rt_array_uint8_2 trace_lines__back__l28 = { { UINT8_C(32), UINT8_C(93) } };
+static const struct rt_array_uint8_1 trace_lines__back__l29 = { { UINT8_C(10) } };
 static inline uint64_t trace_lines__back(rt_slice l1, uint64_t l2, uint64_t l3, struct trace_lines__writes__Write l4, struct layout__Numbers l5, rt_slice l6, rt_slice l7)
 {
     uint64_t l0;
@@ -15535,46 +16242,50 @@ static inline uint64_t trace_lines__back(rt_slice l1, uint64_t l2, uint64_t l3, 
     uint64_t l9;
     uint64_t l10;
     uint64_t l11;
+    uint8_t *l12;
+    rt_slice l13;
     uint8_t *l14;
     rt_slice l15;
     uint8_t *l16;
-    rt_slice l17;
-    uint8_t *l18;
-    rt_slice l19;
-    uint8_t *l20;
-    rt_slice l21;
-    uint8_t *l22;
-    rt_slice l23;
-    uint8_t *l24;
-    rt_slice l25;
+    uint8_t *l17;
+    rt_slice l18;
+    uint8_t *l19;
+    rt_slice l20;
+    uint8_t *l21;
+    rt_slice l22;
+    uint8_t *l23;
+    rt_slice l24;
+    uint8_t *l25;
     uint8_t *l26;
     rt_slice l27;
+    l12 = (uint8_t *)&(*(uint8_t *)l1.p);
+    l13.p = l12;
+    l13.n = l1.n;
+    l8 = trace_lines__parts__stack(l13, l2, l6, l7, l3);
     l14 = (uint8_t *)&(*(uint8_t *)l1.p);
     l15.p = l14;
     l15.n = l1.n;
-    l8 = trace_lines__parts__stack(l15, l2, l6, l7, l3);
-    l16 = (uint8_t *)&(*(uint8_t *)l1.p);
-    l17.p = l16;
-    l17.n = l1.n;
-    l18 = (uint8_t *)&trace_lines__back__l12;
-    l19.p = l18;
-    l19.n = UINT64_C(2);
-    l9 = text__put(l17, l8, l19);
-    l20 = (uint8_t *)&(*(uint8_t *)l1.p);
-    l21.p = l20;
-    l21.n = l1.n;
-    l10 = trace_lines__writes__written(l21, l9, l4, l7);
-    l22 = (uint8_t *)&(*(uint8_t *)l1.p);
-    l23.p = l22;
-    l23.n = l1.n;
-    l11 = trace_lines__parts__entries(l23, l10, l5.f2, l5.f3);
-    l24 = (uint8_t *)&(*(uint8_t *)l1.p);
-    l25.p = l24;
-    l25.n = l1.n;
-    l26 = (uint8_t *)&trace_lines__back__l13;
+    l16 = (uint8_t *)&trace_lines__back__l28;
+    l17 = (uint8_t *)&(*(uint8_t *)l16);
+    l18.p = l17;
+    l18.n = UINT64_C(2);
+    l9 = text__put(l15, l8, l18);
+    l19 = (uint8_t *)&(*(uint8_t *)l1.p);
+    l20.p = l19;
+    l20.n = l1.n;
+    l10 = trace_lines__writes__written(l20, l9, l4, l7);
+    l21 = (uint8_t *)&(*(uint8_t *)l1.p);
+    l22.p = l21;
+    l22.n = l1.n;
+    l11 = trace_lines__parts__entries(l22, l10, l5.f2, l5.f3);
+    l23 = (uint8_t *)&(*(uint8_t *)l1.p);
+    l24.p = l23;
+    l24.n = l1.n;
+    l25 = (uint8_t *)&trace_lines__back__l29;
+    l26 = (uint8_t *)&(*(uint8_t *)l25);
     l27.p = l26;
     l27.n = UINT64_C(1);
-    l0 = text__put(l25, l11, l27);
+    l0 = text__put(l24, l11, l27);
     return l0;
 }
 
@@ -15617,51 +16328,53 @@ static inline uint64_t trace_lines__columns(rt_slice l1, uint64_t l2, uint64_t l
     return l0;
 }
 
-static const struct rt_array_uint8_2 trace_lines__front__l6 = { { UINT8_C(32), UINT8_C(91) } };
+static const struct rt_array_uint8_2 trace_lines__front__l20 = { { UINT8_C(32), UINT8_C(91) } };
 static inline uint64_t trace_lines__front(rt_slice l1, struct trace_lines__Acting l2)
 {
     uint64_t l0;
     uint64_t l3;
     uint64_t l4;
     uint64_t l5;
-    uint8_t *l7;
-    rt_slice l8;
+    uint8_t *l6;
+    rt_slice l7;
+    uint64_t l8;
     uint64_t l9;
     uint64_t l10;
-    uint64_t l11;
-    uint8_t *l12;
-    rt_slice l13;
-    uint8_t *l14;
-    rt_slice l15;
-    uint8_t *l16;
-    rt_slice l17;
+    uint8_t *l11;
+    rt_slice l12;
+    uint8_t *l13;
+    rt_slice l14;
+    uint8_t *l15;
+    rt_slice l16;
+    uint8_t *l17;
     uint8_t *l18;
     rt_slice l19;
-    l7 = (uint8_t *)&(*(uint8_t *)l1.p);
-    l8.p = l7;
-    l8.n = l1.n;
-    l9 = l2.f0;
-    l10 = (uint64_t)l2.f1;
-    l11 = l2.f2;
-    l3 = trace_lines__columns(l8, UINT64_C(0), l9, l10, l11);
-    l12 = (uint8_t *)&(*(uint8_t *)l1.p);
-    l13.p = l12;
-    l13.n = l1.n;
-    l9 = l2.f3;
-    l11 = l2.f4;
-    l10 = l2.f5;
-    l4 = trace_lines__columns(l13, l3, l9, l11, l10);
-    l14 = (uint8_t *)&(*(uint8_t *)l1.p);
-    l15.p = l14;
-    l15.n = l1.n;
-    l5 = text__command(l15, l4, l2.f6);
-    l16 = (uint8_t *)&(*(uint8_t *)l1.p);
-    l17.p = l16;
-    l17.n = l1.n;
-    l18 = (uint8_t *)&trace_lines__front__l6;
+    l6 = (uint8_t *)&(*(uint8_t *)l1.p);
+    l7.p = l6;
+    l7.n = l1.n;
+    l8 = l2.f0;
+    l9 = (uint64_t)l2.f1;
+    l10 = l2.f2;
+    l3 = trace_lines__columns(l7, UINT64_C(0), l8, l9, l10);
+    l11 = (uint8_t *)&(*(uint8_t *)l1.p);
+    l12.p = l11;
+    l12.n = l1.n;
+    l8 = l2.f3;
+    l10 = l2.f4;
+    l9 = l2.f5;
+    l4 = trace_lines__columns(l12, l3, l8, l10, l9);
+    l13 = (uint8_t *)&(*(uint8_t *)l1.p);
+    l14.p = l13;
+    l14.n = l1.n;
+    l5 = text__command(l14, l4, l2.f6);
+    l15 = (uint8_t *)&(*(uint8_t *)l1.p);
+    l16.p = l15;
+    l16.n = l1.n;
+    l17 = (uint8_t *)&trace_lines__front__l20;
+    l18 = (uint8_t *)&(*(uint8_t *)l17);
     l19.p = l18;
     l19.n = UINT64_C(2);
-    l0 = text__put(l17, l5, l19);
+    l0 = text__put(l16, l5, l19);
     return l0;
 }
 
@@ -15678,84 +16391,92 @@ static inline uint64_t trace_lines__minus(uint64_t l1, uint64_t l2)
     return l0;
 }
 
-static const struct rt_array_uint8_4 trace_lines__moved__l5 = { { UINT8_C(109), UINT8_C(111), UINT8_C(118), UINT8_C(101) } };
-static const struct rt_array_uint8_1 trace_lines__moved__l6 = { { UINT8_C(10) } };
+static const struct rt_array_uint8_4 trace_lines__moved__l17 = { { UINT8_C(109), UINT8_C(111), UINT8_C(118), UINT8_C(101) } };
+static const struct rt_array_uint8_1 trace_lines__moved__l18 = { { UINT8_C(10) } };
 static inline uint64_t trace_lines__moved(rt_slice l1, struct layout__Numbers l2)
 {
     uint64_t l0;
     uint64_t l3;
     uint64_t l4;
+    uint8_t *l5;
+    rt_slice l6;
     uint8_t *l7;
-    rt_slice l8;
-    uint8_t *l9;
-    rt_slice l10;
-    uint8_t *l11;
-    rt_slice l12;
-    uint8_t *l13;
-    rt_slice l14;
+    uint8_t *l8;
+    rt_slice l9;
+    uint8_t *l10;
+    rt_slice l11;
+    uint8_t *l12;
+    rt_slice l13;
+    uint8_t *l14;
     uint8_t *l15;
     rt_slice l16;
-    l7 = (uint8_t *)&(*(uint8_t *)l1.p);
-    l8.p = l7;
-    l8.n = l1.n;
-    l9 = (uint8_t *)&trace_lines__moved__l5;
-    l10.p = l9;
-    l10.n = UINT64_C(4);
-    l3 = text__put(l8, UINT64_C(0), l10);
-    l11 = (uint8_t *)&(*(uint8_t *)l1.p);
-    l12.p = l11;
-    l12.n = l1.n;
-    l4 = trace_lines__parts__entries(l12, l3, l2.f2, l2.f3);
-    l13 = (uint8_t *)&(*(uint8_t *)l1.p);
-    l14.p = l13;
-    l14.n = l1.n;
-    l15 = (uint8_t *)&trace_lines__moved__l6;
+    l5 = (uint8_t *)&(*(uint8_t *)l1.p);
+    l6.p = l5;
+    l6.n = l1.n;
+    l7 = (uint8_t *)&trace_lines__moved__l17;
+    l8 = (uint8_t *)&(*(uint8_t *)l7);
+    l9.p = l8;
+    l9.n = UINT64_C(4);
+    l3 = text__put(l6, UINT64_C(0), l9);
+    l10 = (uint8_t *)&(*(uint8_t *)l1.p);
+    l11.p = l10;
+    l11.n = l1.n;
+    l4 = trace_lines__parts__entries(l11, l3, l2.f2, l2.f3);
+    l12 = (uint8_t *)&(*(uint8_t *)l1.p);
+    l13.p = l12;
+    l13.n = l1.n;
+    l14 = (uint8_t *)&trace_lines__moved__l18;
+    l15 = (uint8_t *)&(*(uint8_t *)l14);
     l16.p = l15;
     l16.n = UINT64_C(1);
-    l0 = text__put(l14, l4, l16);
+    l0 = text__put(l13, l4, l16);
     return l0;
 }
 
-static const struct rt_array_uint8_1 trace_lines__parts__cell__l8 = { { UINT8_C(32) } };
-static const struct rt_array_uint8_1 trace_lines__parts__cell__l9 = { { UINT8_C(58) } };
+static const struct rt_array_uint8_1 trace_lines__parts__cell__l23 = { { UINT8_C(32) } };
+static const struct rt_array_uint8_1 trace_lines__parts__cell__l24 = { { UINT8_C(58) } };
 static inline uint64_t trace_lines__parts__cell(rt_slice l1, uint64_t l2, rt_slice l3, uint64_t l4)
 {
     uint64_t l0;
     uint64_t l5;
     uint64_t l6;
     uint64_t l7;
+    uint8_t *l8;
+    rt_slice l9;
     uint8_t *l10;
-    rt_slice l11;
-    uint8_t *l12;
-    rt_slice l13;
-    uint8_t *l14;
-    rt_slice l15;
-    uint64_t l16;
-    uint8_t *l17;
-    rt_slice l18;
+    uint8_t *l11;
+    rt_slice l12;
+    uint8_t *l13;
+    rt_slice l14;
+    uint64_t l15;
+    uint8_t *l16;
+    rt_slice l17;
+    uint8_t *l18;
     uint8_t *l19;
     rt_slice l20;
     uint8_t *l21;
     rt_slice l22;
-    l10 = (uint8_t *)&(*(uint8_t *)l1.p);
-    l11.p = l10;
-    l11.n = l1.n;
-    l12 = (uint8_t *)&trace_lines__parts__cell__l8;
-    l13.p = l12;
-    l13.n = UINT64_C(1);
-    l5 = text__put(l11, l2, l13);
-    l14 = (uint8_t *)&(*(uint8_t *)l1.p);
-    l15.p = l14;
-    l15.n = l1.n;
-    l16 = trace_lines__parts__tag(l3, l4);
-    l6 = text__decimal(l15, l5, l16);
-    l17 = (uint8_t *)&(*(uint8_t *)l1.p);
-    l18.p = l17;
-    l18.n = l1.n;
-    l19 = (uint8_t *)&trace_lines__parts__cell__l9;
+    l8 = (uint8_t *)&(*(uint8_t *)l1.p);
+    l9.p = l8;
+    l9.n = l1.n;
+    l10 = (uint8_t *)&trace_lines__parts__cell__l23;
+    l11 = (uint8_t *)&(*(uint8_t *)l10);
+    l12.p = l11;
+    l12.n = UINT64_C(1);
+    l5 = text__put(l9, l2, l12);
+    l13 = (uint8_t *)&(*(uint8_t *)l1.p);
+    l14.p = l13;
+    l14.n = l1.n;
+    l15 = trace_lines__parts__tag(l3, l4);
+    l6 = text__decimal(l14, l5, l15);
+    l16 = (uint8_t *)&(*(uint8_t *)l1.p);
+    l17.p = l16;
+    l17.n = l1.n;
+    l18 = (uint8_t *)&trace_lines__parts__cell__l24;
+    l19 = (uint8_t *)&(*(uint8_t *)l18);
     l20.p = l19;
     l20.n = UINT64_C(1);
-    l7 = text__put(l18, l6, l20);
+    l7 = text__put(l17, l6, l20);
     l21 = (uint8_t *)&(*(uint8_t *)l1.p);
     l22.p = l21;
     l22.n = l1.n;
@@ -15763,15 +16484,16 @@ static inline uint64_t trace_lines__parts__cell(rt_slice l1, uint64_t l2, rt_sli
     return l0;
 }
 
-static const struct rt_array_uint8_2 trace_lines__parts__entries__l8 = { { UINT8_C(32), UINT8_C(115) } };
+static const struct rt_array_uint8_2 trace_lines__parts__entries__l19 = { { UINT8_C(32), UINT8_C(115) } };
 static inline uint64_t trace_lines__parts__entries(rt_slice l1, uint64_t l2, uint64_t l3, uint64_t l4)
 {
     uint64_t l0;
     uint64_t l5;
     uint64_t l6;
     uint64_t l7;
-    uint8_t *l9;
-    rt_slice l10;
+    uint8_t *l8;
+    rt_slice l9;
+    uint8_t *l10;
     uint8_t *l11;
     rt_slice l12;
     uint8_t l13;
@@ -15780,13 +16502,14 @@ static inline uint64_t trace_lines__parts__entries(rt_slice l1, uint64_t l2, uin
     uint64_t l16;
     uint8_t l17;
     uint8_t l18;
-    l9 = (uint8_t *)&(*(uint8_t *)l1.p);
-    l10.p = l9;
-    l10.n = l1.n;
-    l11 = (uint8_t *)&trace_lines__parts__entries__l8;
+    l8 = (uint8_t *)&(*(uint8_t *)l1.p);
+    l9.p = l8;
+    l9.n = l1.n;
+    l10 = (uint8_t *)&trace_lines__parts__entries__l19;
+    l11 = (uint8_t *)&(*(uint8_t *)l10);
     l12.p = l11;
     l12.n = UINT64_C(2);
-    l5 = text__put(l10, l2, l12);
+    l5 = text__put(l9, l2, l12);
     l6 = l4;
     l7 = UINT64_C(0);
     for (;;) {
@@ -15982,7 +16705,7 @@ static inline uint64_t trace_lines__step_at(uint64_t l1, uint64_t l2)
     return l0;
 }
 
-static inline struct trace_lines__Told trace_lines__turn(struct trace_lines__Coming l1, rt_slice l2, rt_slice l3, rt_slice l4, rt_slice l5, rt_slice l6, rt_slice l7)
+static RT_HERE struct trace_lines__Told trace_lines__turn(struct trace_lines__Coming l1, rt_slice l2, rt_slice l3, rt_slice l4, rt_slice l5, rt_slice l6, rt_slice l7)
 {
     struct trace_lines__Told l0;
     struct engine__Machine l8;
@@ -16028,8 +16751,20 @@ static inline struct trace_lines__Told trace_lines__turn(struct trace_lines__Com
     rt_slice l48;
     uint8_t *l49;
     rt_slice l50;
-    l8 = l1.f0;
-    l9 = l8.f0;
+    l8.f0.f0 = l1.f0.f0.f0;
+    l8.f0.f1 = l1.f0.f0.f1;
+    l8.f0.f2 = l1.f0.f0.f2;
+    l8.f0.f3 = l1.f0.f0.f3;
+    l8.f0.f4 = l1.f0.f0.f4;
+    l8.f0.f5 = l1.f0.f0.f5;
+    l8.f0.f6 = l1.f0.f0.f6;
+    l9.f0 = l8.f0.f0;
+    l9.f1 = l8.f0.f1;
+    l9.f2 = l8.f0.f2;
+    l9.f3 = l8.f0.f3;
+    l9.f4 = l8.f0.f4;
+    l9.f5 = l8.f0.f5;
+    l9.f6 = l8.f0.f6;
     l10 = l9.f0;
     l20 = (uint8_t *)&(*(uint16_t *)l5.p);
     l21.p = l20;
@@ -16078,7 +16813,13 @@ static inline struct trace_lines__Told trace_lines__turn(struct trace_lines__Com
     l43.p = l42;
     l43.n = l6.n;
     l17 = engine__Machine__command(l8, l2, l3, l41, l43, l11);
-    l18 = l17.f0;
+    l18.f0 = l17.f0.f0;
+    l18.f1 = l17.f0.f1;
+    l18.f2 = l17.f0.f2;
+    l18.f3 = l17.f0.f3;
+    l18.f4 = l17.f0.f4;
+    l18.f5 = l17.f0.f5;
+    l18.f6 = l17.f0.f6;
     l44 = (uint8_t)(l18.f4 != UINT8_C(0));
     if (l44) {
         l0.f0 = l17;
@@ -16109,7 +16850,7 @@ static inline uint64_t trace_lines__wide(uint16_t l1)
     return l0;
 }
 
-static inline struct trace_lines__writes__Write trace_lines__writes__nothing(void)
+static RT_HERE struct trace_lines__writes__Write trace_lines__writes__nothing(void)
 {
     struct trace_lines__writes__Write l0;
     l0.f0 = 0;
@@ -16119,55 +16860,59 @@ static inline struct trace_lines__writes__Write trace_lines__writes__nothing(voi
     return l0;
 }
 
-static const struct rt_array_uint8_1 trace_lines__writes__place__l8 = { { UINT8_C(32) } };
-static const struct rt_array_uint8_1 trace_lines__writes__place__l9 = { { UINT8_C(46) } };
+static const struct rt_array_uint8_1 trace_lines__writes__place__l23 = { { UINT8_C(32) } };
+static const struct rt_array_uint8_1 trace_lines__writes__place__l24 = { { UINT8_C(46) } };
 static inline uint64_t trace_lines__writes__place(rt_slice l1, uint64_t l2, uint64_t l3, uint64_t l4)
 {
     uint64_t l0;
     uint64_t l5;
     uint64_t l6;
     uint64_t l7;
+    uint8_t *l8;
+    rt_slice l9;
     uint8_t *l10;
-    rt_slice l11;
-    uint8_t *l12;
-    rt_slice l13;
-    uint8_t *l14;
-    rt_slice l15;
-    uint64_t l16;
-    uint8_t *l17;
-    rt_slice l18;
+    uint8_t *l11;
+    rt_slice l12;
+    uint8_t *l13;
+    rt_slice l14;
+    uint64_t l15;
+    uint8_t *l16;
+    rt_slice l17;
+    uint8_t *l18;
     uint8_t *l19;
     rt_slice l20;
     uint8_t *l21;
     rt_slice l22;
-    l10 = (uint8_t *)&(*(uint8_t *)l1.p);
-    l11.p = l10;
-    l11.n = l1.n;
-    l12 = (uint8_t *)&trace_lines__writes__place__l8;
-    l13.p = l12;
-    l13.n = UINT64_C(1);
-    l5 = text__put(l11, l2, l13);
-    l14 = (uint8_t *)&(*(uint8_t *)l1.p);
-    l15.p = l14;
-    l15.n = l1.n;
-    l16 = l3;
-    l6 = text__decimal(l15, l5, l16);
-    l17 = (uint8_t *)&(*(uint8_t *)l1.p);
-    l18.p = l17;
-    l18.n = l1.n;
-    l19 = (uint8_t *)&trace_lines__writes__place__l9;
+    l8 = (uint8_t *)&(*(uint8_t *)l1.p);
+    l9.p = l8;
+    l9.n = l1.n;
+    l10 = (uint8_t *)&trace_lines__writes__place__l23;
+    l11 = (uint8_t *)&(*(uint8_t *)l10);
+    l12.p = l11;
+    l12.n = UINT64_C(1);
+    l5 = text__put(l9, l2, l12);
+    l13 = (uint8_t *)&(*(uint8_t *)l1.p);
+    l14.p = l13;
+    l14.n = l1.n;
+    l15 = l3;
+    l6 = text__decimal(l14, l5, l15);
+    l16 = (uint8_t *)&(*(uint8_t *)l1.p);
+    l17.p = l16;
+    l17.n = l1.n;
+    l18 = (uint8_t *)&trace_lines__writes__place__l24;
+    l19 = (uint8_t *)&(*(uint8_t *)l18);
     l20.p = l19;
     l20.n = UINT64_C(1);
-    l7 = text__put(l18, l6, l20);
+    l7 = text__put(l17, l6, l20);
     l21 = (uint8_t *)&(*(uint8_t *)l1.p);
     l22.p = l21;
     l22.n = l1.n;
-    l16 = l4;
-    l0 = text__decimal(l22, l7, l16);
+    l15 = l4;
+    l0 = text__decimal(l22, l7, l15);
     return l0;
 }
 
-static inline struct trace_lines__writes__Write trace_lines__writes__target(rt_slice l1, rt_slice l2, rt_slice l3, rt_slice l4, uint64_t l5)
+static RT_HERE struct trace_lines__writes__Write trace_lines__writes__target(rt_slice l1, rt_slice l2, rt_slice l3, rt_slice l4, uint64_t l5)
 {
     struct trace_lines__writes__Write l0;
     uint64_t l6;
@@ -16245,8 +16990,8 @@ static inline struct trace_lines__writes__Write trace_lines__writes__target(rt_s
     return l0;
 }
 
-static const struct rt_array_uint8_1 trace_lines__writes__written__l12 = { { UINT8_C(32) } };
-static const struct rt_array_uint8_1 trace_lines__writes__written__l13 = { { UINT8_C(32) } };
+static const struct rt_array_uint8_1 trace_lines__writes__written__l34 = { { UINT8_C(32) } };
+static const struct rt_array_uint8_1 trace_lines__writes__written__l35 = { { UINT8_C(32) } };
 static inline uint64_t trace_lines__writes__written(rt_slice l1, uint64_t l2, struct trace_lines__writes__Write l3, rt_slice l4)
 {
     uint64_t l0;
@@ -16257,58 +17002,62 @@ static inline uint64_t trace_lines__writes__written(rt_slice l1, uint64_t l2, st
     uint64_t l9;
     uint64_t l10;
     uint64_t l11;
-    uint8_t l14;
+    uint8_t l12;
+    uint64_t l13;
+    uint64_t l14;
     uint64_t l15;
-    uint64_t l16;
+    uint8_t *l16;
     uint64_t l17;
     uint8_t *l18;
-    uint64_t l19;
+    rt_slice l19;
     uint8_t *l20;
     rt_slice l21;
     uint8_t *l22;
-    rt_slice l23;
-    uint8_t *l24;
-    rt_slice l25;
-    uint8_t *l26;
-    rt_slice l27;
-    uint8_t *l28;
-    rt_slice l29;
+    uint8_t *l23;
+    rt_slice l24;
+    uint8_t *l25;
+    rt_slice l26;
+    uint8_t *l27;
+    rt_slice l28;
+    uint8_t *l29;
     uint8_t *l30;
     rt_slice l31;
     uint8_t *l32;
     rt_slice l33;
-    l14 = l3.f0;
-    if (l14) {
+    l12 = l3.f0;
+    if (l12) {
         l5 = l3.f1;
         l6 = l3.f2;
-        l15 = (uint64_t)((uint64_t)UINT64_C(32) * (uint64_t)l5);
-        l16 = (uint64_t)((uint64_t)l15 + (uint64_t)l6);
-        l17 = (uint64_t)((uint64_t)l16 * (uint64_t)UINT64_C(8));
-        l18 = l4.p + (size_t)l17;
-        l19 = (*(uint64_t *)l18);
-        l7 = l19;
+        l13 = (uint64_t)((uint64_t)UINT64_C(32) * (uint64_t)l5);
+        l14 = (uint64_t)((uint64_t)l13 + (uint64_t)l6);
+        l15 = (uint64_t)((uint64_t)l14 * (uint64_t)UINT64_C(8));
+        l16 = l4.p + (size_t)l15;
+        l17 = (*(uint64_t *)l16);
+        l7 = l17;
+        l18 = (uint8_t *)&(*(uint8_t *)l1.p);
+        l19.p = l18;
+        l19.n = l1.n;
+        l8 = trace_lines__writes__place(l19, l2, l5, l6);
         l20 = (uint8_t *)&(*(uint8_t *)l1.p);
         l21.p = l20;
         l21.n = l1.n;
-        l8 = trace_lines__writes__place(l21, l2, l5, l6);
-        l22 = (uint8_t *)&(*(uint8_t *)l1.p);
-        l23.p = l22;
-        l23.n = l1.n;
-        l24 = (uint8_t *)&trace_lines__writes__written__l12;
-        l25.p = l24;
-        l25.n = UINT64_C(1);
-        l9 = text__put(l23, l8, l25);
-        l26 = (uint8_t *)&(*(uint8_t *)l1.p);
-        l27.p = l26;
-        l27.n = l1.n;
-        l10 = trace_lines__parts__worth(l27, l9, l3.f3);
-        l28 = (uint8_t *)&(*(uint8_t *)l1.p);
-        l29.p = l28;
-        l29.n = l1.n;
-        l30 = (uint8_t *)&trace_lines__writes__written__l13;
+        l22 = (uint8_t *)&trace_lines__writes__written__l34;
+        l23 = (uint8_t *)&(*(uint8_t *)l22);
+        l24.p = l23;
+        l24.n = UINT64_C(1);
+        l9 = text__put(l21, l8, l24);
+        l25 = (uint8_t *)&(*(uint8_t *)l1.p);
+        l26.p = l25;
+        l26.n = l1.n;
+        l10 = trace_lines__parts__worth(l26, l9, l3.f3);
+        l27 = (uint8_t *)&(*(uint8_t *)l1.p);
+        l28.p = l27;
+        l28.n = l1.n;
+        l29 = (uint8_t *)&trace_lines__writes__written__l35;
+        l30 = (uint8_t *)&(*(uint8_t *)l29);
         l31.p = l30;
         l31.n = UINT64_C(1);
-        l11 = text__put(l29, l10, l31);
+        l11 = text__put(l28, l10, l31);
         l32 = (uint8_t *)&(*(uint8_t *)l1.p);
         l33.p = l32;
         l33.n = l1.n;
@@ -16502,7 +17251,7 @@ end1:;
     return;
 }
 
-static inline struct uses__Seen uses__looked__called(rt_slice l1, rt_slice l2, uint64_t l3, uint8_t l4, uint64_t l5)
+static RT_HERE struct uses__Seen uses__looked__called(rt_slice l1, rt_slice l2, uint64_t l3, uint8_t l4, uint64_t l5)
 {
     struct uses__Seen l0;
     uint8_t l6;
@@ -16525,7 +17274,7 @@ static inline struct uses__Seen uses__looked__called(rt_slice l1, rt_slice l2, u
     return l0;
 }
 
-static inline struct uses__Seen uses__looked__first(rt_slice l1, rt_slice l2, rt_slice l3, uint64_t l4, struct uses__Scope l5)
+static RT_HERE struct uses__Seen uses__looked__first(rt_slice l1, rt_slice l2, rt_slice l3, uint64_t l4, struct uses__Scope l5)
 {
     struct uses__Seen l0;
     uint64_t l6;
@@ -16561,7 +17310,7 @@ static inline struct uses__Seen uses__looked__first(rt_slice l1, rt_slice l2, rt
     return l0;
 }
 
-static inline struct uses__Seen uses__looked__later(rt_slice l1, rt_slice l2, uint64_t l3, uint64_t l4)
+static RT_HERE struct uses__Seen uses__looked__later(rt_slice l1, rt_slice l2, uint64_t l3, uint64_t l4)
 {
     struct uses__Seen l0;
     uint64_t l5;
@@ -16587,7 +17336,7 @@ static inline struct uses__Seen uses__looked__later(rt_slice l1, rt_slice l2, ui
     return l0;
 }
 
-static inline struct uses__Seen uses__looked__listed(rt_slice l1, rt_slice l2, uint64_t l3, uint64_t l4, uint64_t l5, uint64_t l6)
+static RT_HERE struct uses__Seen uses__looked__listed(rt_slice l1, rt_slice l2, uint64_t l3, uint64_t l4, uint64_t l5, uint64_t l6)
 {
     struct uses__Seen l0;
     uint64_t l7;
@@ -16618,7 +17367,7 @@ static inline struct uses__Seen uses__looked__listed(rt_slice l1, rt_slice l2, u
     return l0;
 }
 
-static inline struct uses__Seen uses__looked__local(rt_slice l1, rt_slice l2, uint64_t l3, uint64_t l4)
+static RT_HERE struct uses__Seen uses__looked__local(rt_slice l1, rt_slice l2, uint64_t l3, uint64_t l4)
 {
     struct uses__Seen l0;
     uint64_t l5;
@@ -16698,7 +17447,7 @@ static inline uint8_t uses__looked__no_parameter(rt_slice l1, rt_slice l2, uint6
     return l0;
 }
 
-static inline struct uses__Seen uses__looked__parameter(rt_slice l1, rt_slice l2, uint64_t l3, uint64_t l4)
+static RT_HERE struct uses__Seen uses__looked__parameter(rt_slice l1, rt_slice l2, uint64_t l3, uint64_t l4)
 {
     struct uses__Seen l0;
     uint64_t l5;
@@ -16780,7 +17529,7 @@ static inline uint8_t uses__looked__unused(rt_slice l1, rt_slice l2, rt_slice l3
     return l0;
 }
 
-static inline struct uses__Numbered uses__numbers(rt_slice l1, rt_slice l2, rt_slice l3, rt_slice l4, rt_slice l5)
+static RT_HERE struct uses__Numbered uses__numbers(rt_slice l1, rt_slice l2, rt_slice l3, rt_slice l4, rt_slice l5)
 {
     struct uses__Numbered l0;
     struct rt_array_uint64_32 l6;
@@ -16823,7 +17572,7 @@ static inline struct uses__Numbered uses__numbers(rt_slice l1, rt_slice l2, rt_s
     return l0;
 }
 
-static inline struct uses__Passed uses__parts__close(rt_slice l1, uint8_t l2, struct uses__Scope l3)
+static RT_HERE struct uses__Passed uses__parts__close(rt_slice l1, uint8_t l2, struct uses__Scope l3)
 {
     struct uses__Passed l0;
     uint64_t l4;
@@ -16854,7 +17603,7 @@ static inline struct uses__Passed uses__parts__close(rt_slice l1, uint8_t l2, st
     return l0;
 }
 
-static inline struct uses__Passed uses__parts__close_if(rt_slice l1, struct uses__Scope l2)
+static RT_HERE struct uses__Passed uses__parts__close_if(rt_slice l1, struct uses__Scope l2)
 {
     struct uses__Passed l0;
     uint64_t l3;
@@ -16895,7 +17644,7 @@ static inline struct uses__Passed uses__parts__close_if(rt_slice l1, struct uses
     return l0;
 }
 
-static inline struct uses__Scope uses__parts__dued(struct uses__Scope l1, uint64_t l2)
+static RT_HERE struct uses__Scope uses__parts__dued(struct uses__Scope l1, uint64_t l2)
 {
     struct uses__Scope l0;
     l0.f0 = l1.f0;
@@ -16908,7 +17657,7 @@ static inline struct uses__Scope uses__parts__dued(struct uses__Scope l1, uint64
     return l0;
 }
 
-static inline struct uses__Passed uses__parts__go_on(rt_slice l1, struct uses__Scope l2)
+static RT_HERE struct uses__Passed uses__parts__go_on(rt_slice l1, struct uses__Scope l2)
 {
     struct uses__Passed l0;
     uint64_t l3;
@@ -16941,7 +17690,7 @@ static inline struct uses__Passed uses__parts__go_on(rt_slice l1, struct uses__S
     return l0;
 }
 
-static inline struct uses__Passed uses__parts__kind_role(rt_slice l1, uint64_t l2, uint8_t l3, struct uses__Scope l4)
+static RT_HERE struct uses__Passed uses__parts__kind_role(rt_slice l1, uint64_t l2, uint8_t l3, struct uses__Scope l4)
 {
     struct uses__Passed l0;
     struct uses__Passed l5;
@@ -16975,7 +17724,7 @@ static inline struct uses__Passed uses__parts__kind_role(rt_slice l1, uint64_t l
     return l0;
 }
 
-static inline struct uses__Scope uses__parts__lived(struct uses__Scope l1, uint64_t l2, uint64_t l3, uint64_t l4)
+static RT_HERE struct uses__Scope uses__parts__lived(struct uses__Scope l1, uint64_t l2, uint64_t l3, uint64_t l4)
 {
     struct uses__Scope l0;
     l0.f0 = l1.f0;
@@ -16988,7 +17737,7 @@ static inline struct uses__Scope uses__parts__lived(struct uses__Scope l1, uint6
     return l0;
 }
 
-static inline struct uses__Passed uses__parts__of_type(struct resolve__Word l1, struct uses__Scope l2)
+static RT_HERE struct uses__Passed uses__parts__of_type(struct resolve__Word l1, struct uses__Scope l2)
 {
     struct uses__Passed l0;
     struct uses__Passed l3;
@@ -17007,7 +17756,7 @@ static inline struct uses__Passed uses__parts__of_type(struct resolve__Word l1, 
     return l0;
 }
 
-static inline struct uses__Passed uses__parts__open_if(rt_slice l1, struct uses__Scope l2)
+static RT_HERE struct uses__Passed uses__parts__open_if(rt_slice l1, struct uses__Scope l2)
 {
     struct uses__Passed l0;
     uint64_t l3;
@@ -17033,7 +17782,7 @@ static inline struct uses__Passed uses__parts__open_if(rt_slice l1, struct uses_
     return l0;
 }
 
-static inline struct uses__Passed uses__parts__part_role(rt_slice l1, uint8_t l2, struct uses__Scope l3)
+static RT_HERE struct uses__Passed uses__parts__part_role(rt_slice l1, uint8_t l2, struct uses__Scope l3)
 {
     struct uses__Passed l0;
     struct uses__Passed l4;
@@ -17128,7 +17877,7 @@ static inline uint8_t uses__pass__quiet(uint8_t l1)
     return l0;
 }
 
-static inline struct uses__Passed uses__pass__use_at(rt_slice l1, rt_slice l2, rt_slice l3, rt_slice l4, uint64_t l5, uint8_t l6, struct uses__Scope l7)
+static RT_HERE struct uses__Passed uses__pass__use_at(rt_slice l1, rt_slice l2, rt_slice l3, rt_slice l4, uint64_t l5, uint8_t l6, struct uses__Scope l7)
 {
     struct uses__Passed l0;
     uint8_t l8;
@@ -17183,7 +17932,7 @@ static inline struct uses__Passed uses__pass__use_at(rt_slice l1, rt_slice l2, r
     return l0;
 }
 
-static inline struct uses__Numbered uses__pass__uses(rt_slice l1, rt_slice l2, rt_slice l3, rt_slice l4, rt_slice l5, rt_slice l6)
+static RT_HERE struct uses__Numbered uses__pass__uses(rt_slice l1, rt_slice l2, rt_slice l3, rt_slice l4, rt_slice l5, rt_slice l6)
 {
     struct uses__Numbered l0;
     struct uses__Scope l7;
@@ -17239,17 +17988,41 @@ static inline struct uses__Numbered uses__pass__uses(rt_slice l1, rt_slice l2, r
                 break;
             }
             case UINT8_C(1): {
-                l11 = l16.s0;
-                l7 = l11;
+                l11.f0 = l16.s0.f0;
+                l11.f1 = l16.s0.f1;
+                l11.f2 = l16.s0.f2;
+                l11.f3 = l16.s0.f3;
+                l11.f4 = l16.s0.f4;
+                l11.f5 = l16.s0.f5;
+                l11.f6 = l16.s0.f6;
+                l7.f0 = l11.f0;
+                l7.f1 = l11.f1;
+                l7.f2 = l11.f2;
+                l7.f3 = l11.f3;
+                l7.f4 = l11.f4;
+                l7.f5 = l11.f5;
+                l7.f6 = l11.f6;
                 break;
             }
             case UINT8_C(2): default: {
-                l12 = l16.s0;
+                l12.f0 = l16.s0.f0;
+                l12.f1 = l16.s0.f1;
+                l12.f2 = l16.s0.f2;
+                l12.f3 = l16.s0.f3;
+                l12.f4 = l16.s0.f4;
+                l12.f5 = l16.s0.f5;
+                l12.f6 = l16.s0.f6;
                 l13 = l16.s1;
                 l23 = l6.p + (size_t)l8;
                 (*(uint8_t *)l23) = l13;
                 l8 = (uint64_t)((uint64_t)l8 + (uint64_t)UINT64_C(1));
-                l7 = l12;
+                l7.f0 = l12.f0;
+                l7.f1 = l12.f1;
+                l7.f2 = l12.f2;
+                l7.f3 = l12.f3;
+                l7.f4 = l12.f4;
+                l7.f5 = l12.f5;
+                l7.f6 = l12.f6;
                 break;
             }
         }
@@ -17260,7 +18033,7 @@ end1:;
     return l0;
 }
 
-static inline struct uses__Passed uses__passing__begin(rt_slice l1, struct uses__Scope l2)
+static RT_HERE struct uses__Passed uses__passing__begin(rt_slice l1, struct uses__Scope l2)
 {
     struct uses__Passed l0;
     uint64_t l3;
@@ -17289,7 +18062,7 @@ static inline struct uses__Passed uses__passing__begin(rt_slice l1, struct uses_
     return l0;
 }
 
-static inline struct uses__Passed uses__passing__declare(rt_slice l1, rt_slice l2, rt_slice l3, uint64_t l4, struct uses__Scope l5)
+static RT_HERE struct uses__Passed uses__passing__declare(rt_slice l1, rt_slice l2, rt_slice l3, uint64_t l4, struct uses__Scope l5)
 {
     struct uses__Passed l0;
     uint64_t l6;
@@ -17343,7 +18116,7 @@ static inline struct uses__Passed uses__passing__declare(rt_slice l1, rt_slice l
     return l0;
 }
 
-static inline struct uses__Passed uses__passing__declared_name(rt_slice l1, rt_slice l2, rt_slice l3, uint64_t l4, uint8_t l5, struct uses__Scope l6)
+static RT_HERE struct uses__Passed uses__passing__declared_name(rt_slice l1, rt_slice l2, rt_slice l3, uint64_t l4, uint8_t l5, struct uses__Scope l6)
 {
     struct uses__Passed l0;
     struct uses__Passed l7;
@@ -17377,7 +18150,7 @@ static inline struct uses__Passed uses__passing__declared_name(rt_slice l1, rt_s
     return l0;
 }
 
-static inline struct uses__Passed uses__passing__left(struct uses__Scope l1, struct uses__Seen l2)
+static RT_HERE struct uses__Passed uses__passing__left(struct uses__Scope l1, struct uses__Seen l2)
 {
     struct uses__Passed l0;
     uint8_t l3;
@@ -17409,7 +18182,7 @@ static inline struct uses__Passed uses__passing__left(struct uses__Scope l1, str
     return l0;
 }
 
-static inline struct uses__Passed uses__passing__made(rt_slice l1, rt_slice l2, rt_slice l3, uint64_t l4, struct uses__Scope l5)
+static RT_HERE struct uses__Passed uses__passing__made(rt_slice l1, rt_slice l2, rt_slice l3, uint64_t l4, struct uses__Scope l5)
 {
     struct uses__Passed l0;
     uint64_t l6;
@@ -17521,7 +18294,7 @@ static inline uint8_t uses__passing__type_number(uint8_t l1)
     return l0;
 }
 
-static inline struct uses__Passed uses__passing__type_role(rt_slice l1, rt_slice l2, uint64_t l3, uint8_t l4, struct uses__Scope l5)
+static RT_HERE struct uses__Passed uses__passing__type_role(rt_slice l1, rt_slice l2, uint64_t l3, uint8_t l4, struct uses__Scope l5)
 {
     struct uses__Passed l0;
     uint64_t l6;
@@ -17566,7 +18339,7 @@ static inline struct uses__Passed uses__passing__type_role(rt_slice l1, rt_slice
     return l0;
 }
 
-static inline struct uses__Passed uses__passing__used_name(rt_slice l1, rt_slice l2, rt_slice l3, rt_slice l4, uint64_t l5, uint8_t l6, struct uses__Scope l7)
+static RT_HERE struct uses__Passed uses__passing__used_name(rt_slice l1, rt_slice l2, rt_slice l3, rt_slice l4, uint64_t l5, uint8_t l6, struct uses__Scope l7)
 {
     struct uses__Passed l0;
     uint8_t l8;

@@ -7,7 +7,7 @@ top=$(cd "$here/.." && pwd)
 work=$(mktemp -d)
 trap 'rm -rf "$work"' EXIT
 if [ $# -eq 0 ]; then
-    (cd "$top" && rt staticlib audala >/dev/null)
+    "$top/tools/staticlib.sh" >/dev/null
 fi
 lib=${1:-$top/target/staticlib}
 for name in check turns image text; do

@@ -1,5 +1,5 @@
 /* The AuDaLa checker, engine and reader of program text for C and C++. Compile dist/audala.c beside it with any C99 compiler, or link with libaudala.a
- * (rt staticlib audala), which is built for x86-64 under the System V calling convention by today's toolchain. include/audala.rs is the same for Rust.
+ * (tools/staticlib.sh), which is built for x86-64 under the System V calling convention by today's toolchain. include/audala.rs is the same for Rust.
  *
  * What the functions answer, and every byte that they write, is fixed by their proved contracts; formats and numbers are set out in
  * docs/FORMAT.md, what a controller needs in docs/CONTROLLER.md. What a caller has to keep, and what no contract speaks of:

@@ -1,4 +1,4 @@
-//! The AuDaLa checker, engine and reader of program text for Rust: what audala.h declares, over slices. Link with libaudala.a (`rt staticlib audala`, or
+//! The AuDaLa checker, engine and reader of program text for Rust: what audala.h declares, over slices. Link with libaudala.a (`tools/staticlib.sh`, or
 //! dist/audala.c compiled), and take this file as a module: `#[path = "../include/audala.rs"] mod audala;`. What numbers and fields mean stands in audala.h.
 #![allow(dead_code)]
 

@@ -15,7 +15,7 @@ failed=0
 verdict() {
     local by=""
     python3 "$work/mir2c/test.py" >"$work/said" 2>&1 || by="its tests"
-    if ! python3 "$work/mir2c" "$version" include/audala.h audala crates/*/out/rlib "$kit/rlibs" >"$work/audala.c" 2>"$work/said"; then
+    if ! python3 "$work/mir2c" "$version" include/audala.h audala crates/*/out/rlib "$kit/rlibs/core.rlib" >"$work/audala.c" 2>"$work/said"; then
         by="$by${by:+, }the translator"
     elif ! gcc -std=c99 -Wall -Wextra -Werror -Wno-maybe-uninitialized -pedantic -O1 -fsanitize=address,undefined -fno-sanitize-recover=all -Iinclude tools/cases.c "$work/audala.c" \
         -o "$work/cases" 2>"$work/said"; then

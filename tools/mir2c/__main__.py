@@ -1,6 +1,7 @@
 """python3 tools/mir2c KIT HEADER ROOT FOLDER...: the exported functions of the crate ROOT as one C99 file, on standard output.
 
-KIT is what `rt version` prints, HEADER declares the functions, and each FOLDER holds libraries of proved crates, whose MIR stands in */toolchain/mir.json.
+KIT is what `rt version` prints, HEADER declares the functions, and each FOLDER is a library of a proved crate or holds such libraries, whose MIR stands in
+toolchain/mir.json.
 The same input gives the same bytes. A form of MIR that is not known here ends the program with status 1 and writes nothing."""
 import json
 import pathlib
@@ -31,13 +32,14 @@ HEAD = """\
 
 
 def read(folders):
-    """All functions of the libraries, by their paths."""
+    """All functions of the libraries, by their paths; nothing where two have one path, as some constants of a trait in the kit's library do."""
     functions = {}
     for folder in folders:
-        for file in sorted(pathlib.Path(folder).glob("*/toolchain/mir.json")):
+        folder = pathlib.Path(folder)
+        for file in sorted(folder.glob("toolchain/mir.json")) or sorted(folder.glob("*/toolchain/mir.json")):
             for name, function in json.loads(file.read_text()):
                 if functions.setdefault(name, function) != function:
-                    raise Unknown(f"two functions {name}")
+                    functions[name] = None
     return functions
 
 
@@ -48,6 +50,8 @@ def reached(functions, starts):
         name = left.pop()
         if name not in seen:
             seen.add(name)
+            if functions[name] is None:
+                raise Unknown(f"two functions {name}")
             functions[name] = forms.known(functions[name])
             for s in functions[name]["body"]:
                 if isinstance(s, dict) and "Call" in s:

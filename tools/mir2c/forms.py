@@ -1,7 +1,7 @@
 """Today's MIR in the forms that the rest of the translator knows.
 
 A call names a function with the types and bounds that it is given, of which these programs have none; a declared type stands with its type arguments, likewise
-none; a wrapping sum has an operation of its own, and is what the unsigned sum of C is; bytes of a text are lent from a table of their own, which is a local array
+none; the count of a repeated value is a form of its own; a wrapping sum has an operation of its own, and is what the unsigned sum of C is; bytes of a text are lent from a table of their own, which is a local array
 here that is assigned once, so that the translator keeps it as a constant."""
 from shapes import Unknown
 
@@ -26,6 +26,8 @@ def rewritten(form):
         if word == "Fn" and isinstance(of, list) and len(of) == 2:
             plain(of[1], of[0])
             return {"Direct": of[0]}
+        if word == "Repeat" and isinstance(of[1], dict) and set(of[1]) == {"Lit"}:
+            return {"Repeat": [rewritten(of[0]), of[1]["Lit"]]}
         if word == "Op2" and of[0] == "WrapAdd":
             return {"Op2": [{"Add": "Unsigned"}, *rewritten(of[1:])]}
     return {word: rewritten(of) for word, of in form.items()}
