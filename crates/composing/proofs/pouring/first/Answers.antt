@@ -32,9 +32,8 @@ pub returns-in_default : goal.returns-in_default
 unfolding pourings
 returns-in_default c =
     let args = c.args in
-    let none = c.in_default.in_default-own.rest in
     record {
       by_index = λ n. ap (within (length args.out.now - margin)) (picked_none (pourings args.o) args.mark (stands args.out.now args.stack.now n args.p)
-          refl (λ l. omega (arith, l, none.0.1, none.1)));
+          refl (λ l. omega arith));
       poured = poured_same args.p c.requires.0;
     }

@@ -65,9 +65,8 @@ pub returns-in_default : goal.returns-in_default
 unfolding stackings
 returns-in_default c =
     let args = c.args in
-    let none = c.in_default.in_default-own.rest in
     record {
       by_index = λ n. ap kept (picked_none (stackings args.o) args.mark (stands args.out.now args.stack.now n args.p) refl
-          (λ l. omega (arith, l, none.0.0.0.0.0.1, none.0.0.0.0.1, none.0.0.0.1, none.0.0.1, none.0.1, none.1)));
+          (λ l. omega arith));
       near = near (near_same args.p) (omega arith) (omega arith);
     }

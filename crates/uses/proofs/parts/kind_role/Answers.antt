@@ -39,7 +39,7 @@ returns-in_default c =
     let x = c.args.text.now in
     let s = c.args.c in
     record {
-      by_index = λ l k o. kind_quiet x l k o s c.args.kind (drop c.args.at x) c.in_default.in_default-own.rest.0.0.1
-          c.in_default.in_default-own.rest.0.1 c.in_default.in_default-own.rest.1;
+      by_index = λ l k o. kind_quiet x l k o s c.args.kind (drop c.args.at x) (λ e. omega arith)
+          (λ e. omega arith) (λ e. omega arith);
       by_index_2 = λ t l r. next_same t l s r;
     }

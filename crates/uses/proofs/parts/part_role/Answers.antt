@@ -67,10 +67,9 @@ unfolding passed_in
 returns-in_default c =
     let a = c.args in
     let p = c.requires in
-    let rest = c.in_default.in_default-own.rest in
     record {
-      o_after = λ x t l o r. part_quiet (use_in x l a.stack.now a.c o) a.role p.3 rest.0.0.0.0.0.1 rest.0.0.0.0.1 rest.0.0.0.1 rest.0.0.1 rest.0.1
-          rest.1;
+      o_after = λ x t l o r. part_quiet (use_in x l a.stack.now a.c o) a.role p.3 (λ e. omega arith) (λ e. omega arith)
+          (λ e. omega arith) (λ e. omega arith) (λ e. omega arith) (λ e. omega arith);
       by_index = λ t l r. next_same t l a.c r;
       stack_len_unchanged = refl;
     }

@@ -39,8 +39,7 @@ returns-in-41 c =
 pub returns-in_default : goal.returns-in_default
 returns-in_default c =
     let a = c.args in
-    let rest = c.in_default.in_default-own.rest in
-    let e : a.role ≡ new_local_role = omega (arith, c.requires.2, c.requires.3, rest.0.0.1, rest.0.1, rest.1) in
+    let e : a.role ≡ new_local_role = omega arith in
     record {
       by_index = λ k o. c.declare.ensures.by_index k o ∙ name_local a.text.now a.tables.now a.locals.now k o a.c (name_at a.text.now a.at) a.role e;
       next = c.declare.ensures.next;
