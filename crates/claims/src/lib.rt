@@ -1,2 +1,2 @@
-// The claims stand in specs/.
+// The claims stand in proofs/.
 #![tactic(auto)]
