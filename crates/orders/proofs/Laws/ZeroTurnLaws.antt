@@ -159,11 +159,6 @@ module _ (p : Program) where
         ap (λ b. unless_due b t (turned f t (next_label m) (note ms (next_label m) (next_deed p m)) (command p (next_label m) m))) h
         ∙ ap (λ o. turned f t (next_label m) o (command p (next_label m) m)) e ∙ ap (turned f t (next_label m) o) c
 
-    pub follow_turn : {m' : Machine} {ns : Marks} → note ms (next_label m) (next_deed p m) ≡ noted ns → command p (next_label m) m ≡ next m'
-        → follow p (suc k) t ms m ≡ follow p k (suc t) ns m'
-    unfolding turned
-    follow_turn e c = follow_due e c
-
     pub follow_stops : {n : ℕ} {ns : Marks} → note ms (next_label m) (next_deed p m) ≡ noted ns → command p (next_label m) m ≡ refused n
         → follow p (suc k) t ms m ≡ stops n t
     unfolding turned
@@ -172,6 +167,11 @@ module _ (p : Program) where
     pub follow_meets : {a q v : ℕ} → note ms (next_label m) (next_deed p m) ≡ met a q v → follow p (suc k) t ms m ≡ together t (next_label m) a q v
     unfolding turned
     follow_meets e = follow_due e refl
+
+  pub follow_turn : (k t : ℕ) (ms : Marks) (m : Machine) {m' : Machine} {ns : Marks} → due m ≡ false → note ms (next_label m) (next_deed p m) ≡ noted ns
+      → command p (next_label m) m ≡ next m' → follow p (suc k) t ms m ≡ follow p k (suc t) ns m'
+  unfolding turned
+  follow_turn k t ms m h e c = follow_due k t ms m h e c
 
   -- an order that completes the step and touches apart is answered so
   pub follow_complete : (k : ℕ) (T : Past) (t : ℕ) (ms : Marks) {m z : Machine} {ls : List ℕ} → Tell T ms → Zeros p m ls z → due z ≡ true → length ls ≤ k
