@@ -5,4 +5,4 @@ top=$(cd "$(dirname "$0")/.." && pwd)
 cd "$top"
 kit=$(dirname "$(rt doc)")
 mkdir -p dist
-python3 tools/mir2c "$(rt version)" include/audala.h audala crates/*/out/rlib "$kit/rlibs/core.rlib" >"${1:-dist/audala.c}"
+python3 tools/mir2c "$(rt version)" include/audala.h audala crates/*/out/rlib "$kit"/rlibs/{core,std,std_alloc}.rlib >"${1:-dist/audala.c}"

@@ -2,7 +2,8 @@
 
 KIT is what `rt version` prints, HEADER declares the functions, and each FOLDER is a library of a proved crate or holds such libraries, whose MIR stands in
 toolchain/mir.json.
-The same input gives the same bytes. A form of MIR that is not known here ends the program with status 1 and writes nothing."""
+Functions, types, constants and bounds that are parameters are written out for each list that they are given (instances.py, names.py). The same input gives the
+same bytes. A form of MIR that is not known here ends the program with status 1 and writes nothing."""
 import json
 import pathlib
 import sys
@@ -13,6 +14,7 @@ import exports
 import forms
 import idioms
 import values
+from instances import Instances
 from shapes import GROUND, Shapes, Unknown, c_name
 
 HEAD = """\
@@ -44,42 +46,28 @@ def read(folders):
 
 
 def reached(functions, starts):
-    """The functions that these call, and so on, in the order of their names; each is left in the forms that are known here."""
-    left, seen = list(starts), set()
-    while left:
-        name = left.pop()
-        if name not in seen:
-            seen.add(name)
-            if functions[name] is None:
-                raise Unknown(f"two functions {name}")
-            functions[name] = forms.known(functions[name])
-            for s in functions[name]["body"]:
-                if isinstance(s, dict) and "Call" in s:
-                    callee = s["Call"][0].get("Direct")
-                    if callee not in functions:
-                        raise Unknown(f"{name}: a call of {s['Call'][0]!r}, no function with a body")
-                    left.append(callee)
-    return sorted(seen)
+    """The instances that these call, and so on, in the order of their names and in the forms that are known here, and the shapes of their types."""
+    found, shapes = Instances(functions, starts).written()
+    written = {name: idioms.shortened(forms.known(found[name])) for name in sorted(found)}
+    if len({c_name(name) for name in written}) != len(written):
+        raise Unknown("two functions with one C name")
+    return written, shapes
 
 
 def translated(kit, header, root, functions):
     """The whole file as lines."""
     declared = exports.Header(header)
     roots = exports.roots(declared, functions, root)
-    names = reached(functions, roots.values())
-    functions = {**functions, **{name: idioms.shortened(functions[name]) for name in names}}
-    if len({c_name(name) for name in names}) != len(names):
-        raise Unknown("two functions with one C name")
-    written = {name: functions[name] for name in names}
-    shapes, called = Shapes(written), calls.Calls(written)
-    bodies = [body.Body(name, functions, shapes, called) for name in names]
+    functions, named = reached(functions, roots.values())
+    shapes, called = Shapes(named), calls.Calls(functions)
+    bodies = [body.Body(name, functions, shapes, called) for name in functions]
     texts = []
     for b in bodies:
         try:
             texts.append(b.written())
         except (Unknown, KeyError, IndexError, TypeError, ValueError, AttributeError, StopIteration) as e:
             raise Unknown(f"{b.name}: {e!r}" if not isinstance(e, Unknown) else f"{b.name}: {e}") from e
-    out = [HEAD.format(count=len(names), kit=kit, root=root), GROUND, calls.WORDS, *exports.assertions(declared), "", *shapes.lines, ""]
+    out = [HEAD.format(count=len(functions), kit=kit, root=root), GROUND, calls.WORDS, *exports.assertions(declared), "", *shapes.lines, ""]
     out += values.helpers([line for text in texts for line in text])
     out += [b.signature() + ";" for b in bodies]
     for text in texts:

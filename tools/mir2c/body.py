@@ -1,56 +1,25 @@
 """A function of the MIR as C: what it assigns, its statements, the whole of it. Assignments to locals that nothing reads are left out."""
-from shapes import POINTER, Unknown, c_name, one
-from values import Values, bits, number
+from constants import Constants
+from shapes import POINTER, UNIT, Unknown, c_name, one
+from values import bits, number
 
 
-class Body(Values):
+class Body(Constants):
     """The C lines of one function."""
 
     def __init__(self, name, functions, shapes, calls):
         super().__init__([local["ty"] for local in functions[name]["locals"]], shapes)
         self.name, self.functions, self.function, self.calls = name, functions, functions[name], calls
-        self.tables, self.lines, self.loops, self.constants = [], [], 0, {}
+        self.tables, self.lines, self.blocks, self.loops, self.constants = [], [], 0, 0, {}
         self.read = set(range(len(self.locals)))
         while self.reads() != self.read:
             self.read = self.reads()
         self.constants = {i: self.constant(i) for i in sorted(self.unchanging())}
 
-    def unchanging(self):
-        """The arrays that are constants: assigned once, from numbers alone, and lent to shared references alone. They need no place on the stack."""
-        assigned, lent, out = {}, set(), set()
-        for s in self.function["body"]:
-            word = next(iter(s)) if isinstance(s, dict) else None
-            if word in ("Assign", "Call"):
-                target = s[word][0 if word == "Assign" else 2]
-                assigned.setdefault(target["local"], []).append(s)
-                if word == "Assign" and "AddrOf" in s[word][1] and not self.shared(target):
-                    lent.add(s[word][1]["AddrOf"]["local"])
-        for i in range(self.function["params"] + 1, len(self.locals)):
-            made = assigned.get(i, [])
-            if i not in lent and len(made) == 1 and isinstance(self.locals[i], dict) and "Array" in self.locals[i] and made[0].get("Assign"):
-                target, value = made[0]["Assign"]
-                if not target["steps"] and "Aggregate" in value and all("Int" in o for o in value["Aggregate"] if isinstance(o, dict)):
-                    out.add(i)
-        return out & self.read
-
-    def shared(self, target):
-        """Whether a place that is assigned holds shared references."""
-        t = self.locals[target["local"]]
-        return not target["steps"] and isinstance(t, dict) and "Ref" in t and t["Ref"][1] == "Imm"
-
-    def constant(self, i):
-        """The name of a constant array, which is written before the function."""
-        made = next(s["Assign"][1]["Aggregate"] for s in self.function["body"] if isinstance(s, dict) and "Assign" in s and s["Assign"][0]["local"] == i)
-        texts, c = [self.operand(o)[0] for o in made], self.shapes.c(self.locals[i])
-        self.same(len(texts), self.locals[i]["Array"][1].get("Lit"), "elements")
-        name = f"{c_name(self.name)}__l{i}"
-        self.tables.append(f"static const {c} {name} = {{ {{ {', '.join(texts)} }} }};")
-        return name
-
     def kept(self, target):
         """Whether an assignment to this place is written: not to a local that nothing reads, nor to one that holds nothing."""
         i = target["local"]
-        return not self.unit(i) and (i == 0 or i in self.read) and i not in self.constants
+        return not self.empty(target) and (i == 0 or i in self.read) and i not in self.constants
 
     def reads(self):
         """The locals that are read by what is written: in operands and addresses, and where a place that is assigned goes through one."""
@@ -76,14 +45,15 @@ class Body(Values):
 
     # Types
 
-    def unit(self, i):
-        return self.locals[i] == "Unit"
+    def parameters(self):
+        """The parameters that hold something."""
+        return [i for i in range(1, self.function["params"] + 1) if self.locals[i] != UNIT]
 
     def result(self):
-        return "void" if self.unit(0) else self.shapes.c(self.locals[0])
+        return "void" if self.locals[0] == UNIT else self.shapes.c(self.locals[0])
 
     def signature(self):
-        given = ", ".join(f"{self.shapes.c(self.locals[i])} l{i}" for i in range(1, self.function["params"] + 1))
+        given = ", ".join(f"{self.shapes.c(self.locals[i])} l{i}" for i in self.parameters())
         word = self.calls.word(self.name, self.shapes, self.constants)
         return f"static {word} {self.result()} {c_name(self.name)}({given or 'void'})".replace("* ", "*")
 
@@ -93,7 +63,7 @@ class Body(Values):
         """A struct, an enum's variant, a slice or an array, made anew: part by part, unless the parts may be read from what is written."""
         target, t = self.place(to)
         c, word = self.shapes.c(t), one(t, "aggregate")[0]
-        given = [self.operand(o) for o in parts]
+        given = self.held(parts)
         if word == "Array":
             self.same(len(given), t["Array"][1].get("Lit"), "elements")
             self.lines.append(f"{target} = ({c}){{ {{ {', '.join(text for text, _ in given)} }} }};")
@@ -107,16 +77,16 @@ class Body(Values):
             self.lines += [f"{target}.{n} = {text};" for n, (text, _) in zip(names, given)] or [f"{target}.none = 0;"]
 
     def members(self, t, parts):
-        """The C names and types of what an aggregate of t holds."""
+        """The C names and types of what an aggregate of t holds, without units."""
         word, of = one(t, "aggregate")
         if word == "Struct":
             return ["p", "n"], [POINTER, "uint64_t"]
         kind, held = one(self.shapes.named[of["name"]], "shape")
         if kind == "Fields":
-            return [f"f{i}" for i in range(len(held))], [self.shapes.c(f) for f in held]
+            return [f"f{i}" for i, f in enumerate(held) if f != UNIT], [self.shapes.c(f) for f in held if f != UNIT]
         k = one(parts[0], "tag")[1]["value"]
         places = self.shapes.slots(of["name"])[1][k]
-        return ["tag"] + [f"s{j}" for j in places], ["uint8_t"] + [self.shapes.c(f) for f in held[k]]
+        return ["tag"] + [f"s{j}" for j in places if j is not None], ["uint8_t"] + [self.shapes.c(f) for f in held[k] if f != UNIT]
 
     def repeat(self, target, t, of):
         """One value in every place of an array."""
@@ -133,9 +103,8 @@ class Body(Values):
         pieces that overlap what was just stored, and the copy waits for it."""
         word, of = one(t, "type") if isinstance(t, dict) else (t, None)
         kind, held = one(self.shapes.named[of["name"]], "shape") if word == "Named" else (word, None)
-        if kind != "Fields" or not held:
-            return [before]
-        return [part for i, field in enumerate(held) for part in self.parts(field, f"{before}.f{i}")]
+        held = [(i, field) for i, field in enumerate(held) if field != UNIT] if kind == "Fields" else []
+        return [part for i, field in held for part in self.parts(field, f"{before}.f{i}")] or [before]
 
     # Statements, in the order in which a walk meets them
 
@@ -156,12 +125,12 @@ class Body(Values):
         if word != "Direct":
             raise Unknown(f"call of {of[0]!r}")
         to = self.functions[callee]
-        wanted = [self.shapes.c(local["ty"]) for local in to["locals"][1 : to["params"] + 1]]
-        given = [self.operand(o) for o in of[1]]
+        wanted = [self.shapes.c(local["ty"]) for local in to["locals"][1 : to["params"] + 1] if local["ty"] != UNIT]
+        given = self.held(of[1])
         self.same([c for _, c in given], wanted, f"arguments of {callee}")
         text = f"{c_name(callee)}({', '.join(text for text, _ in given)});"
-        if self.unit(of[2]["local"]):
-            self.same(to["locals"][0]["ty"], "Unit", f"result of {callee}")
+        if self.empty(of[2]):
+            self.same(to["locals"][0]["ty"], UNIT, f"result of {callee}")
         elif self.kept(of[2]):
             target, t = self.place(of[2])
             self.same(self.shapes.c(to["locals"][0]["ty"]), self.shapes.c(t), f"result of {callee}")
@@ -170,47 +139,74 @@ class Body(Values):
             text = "(void)" + text
         self.lines.append(text)
 
-    def statement(self, walk, end=None):
-        """The next statement; `end` is the label behind the innermost loop."""
+    def statement(self, walk, around=()):
+        """The next statement; `around` has the labels that leave or repeat the blocks and loops around it, the innermost first."""
         s = next(walk)
         while s == "Seq":
-            self.statement(walk, end)
+            self.statement(walk, around)
             s = next(walk)
         if s == "Return":
-            self.lines.append("return;" if self.unit(0) else "return l0;")
-        elif s == "Block" and next(walk) == "Loop":
-            self.loop(walk)
+            self.lines.append("return;" if self.locals[0] == UNIT else "return l0;")
+        elif s == "Block":
+            self.block(walk, around)
+        elif s == "Loop":
+            self.loop(walk, around)
+        elif s == "Unreachable":
+            self.lines.append("RT_NEVER;")
         elif s != "Skip":
-            word, of = one(s, "statement")
-            if word == "Assign":
-                self.assign(of)
-            elif word == "Call":
-                self.call(of)
-            elif word == "Exit" and of == 1 and end:
-                self.lines.append(f"goto {end};")
-            elif word == "If":
-                self.choice(walk, end, of)
-            elif word == "Switch" and len(of) == 3:
-                self.switch(walk, end, of)
-            else:
-                raise Unknown(f"statement {s!r}")
+            self.simple(walk, around, *one(s, "statement"))
 
-    def loop(self, walk):
-        self.loops += 1
-        end = f"end{self.loops}"
-        self.lines.append("for (;;) {")
-        self.statement(walk, end)
-        self.lines.append("}")
+    def simple(self, walk, around, word, of):
+        """A statement that has parts."""
+        if word == "Assign":
+            self.assign(of)
+        elif word == "Call":
+            self.call(of)
+        elif word == "Exit" and of in range(len(around)):
+            self.lines.append(f"goto {around[of]};")
+        elif word == "If":
+            self.choice(walk, around, of)
+        elif word == "Switch" and len(of) == 3:
+            self.switch(walk, around, of)
+        elif word == "Copied":
+            self.copied(self.shapes.size(of))
+        else:
+            raise Unknown(f"statement {word}: {of!r}")
+
+    def copied(self, size):
+        """What stands before a loop that copies l3 elements from l1 to l2: the same at once, where the rooms are apart."""
+        self.lines += [
+            f"if ((uintptr_t)l2 - (uintptr_t)l1 >= (size_t)l3 * {size} && (uintptr_t)l1 - (uintptr_t)l2 >= (size_t)l3 * {size}) {{",
+            f"memcpy(l2, l1, (size_t)l3 * {size});",
+            "return;",
+            "}",
+        ]
+
+    def block(self, walk, around):
+        """What an exit leaves; its label stands behind it."""
+        self.blocks += 1
+        end = f"end{self.blocks}"
+        self.statement(walk, (end, *around))
         if f"goto {end};" in self.lines:
             self.lines.append(f"{end}:;")
 
-    def choice(self, walk, end, of):
+    def loop(self, walk, around):
+        """What an exit begins again; its label stands at the end of its body."""
+        self.loops += 1
+        again = f"again{self.loops}"
+        self.lines.append("for (;;) {")
+        self.statement(walk, (again, *around))
+        if f"goto {again};" in self.lines:
+            self.lines.append(f"{again}:;")
+        self.lines.append("}")
+
+    def choice(self, walk, around, of):
         text, c = self.operand(of)
         self.same(c, "uint8_t", "condition")
         self.lines.append(f"if ({text}) {{")
-        self.statement(walk, end)
+        self.statement(walk, around)
         self.lines.append("} else {")
-        self.statement(walk, end)
+        self.statement(walk, around)
         if self.lines[-1] == "} else {":
             self.lines.pop()
         self.lines.append("}")
@@ -224,7 +220,7 @@ class Body(Values):
             raise Unknown(f"a switch on {o!r} with no default")
         return list(range(len(self.shapes.named[of["name"]]["Variants"])))
 
-    def switch(self, walk, end, of):
+    def switch(self, walk, around, of):
         """A switch with no default names every tag of its enum: its last arm takes the default, so that the C text has no way around the arms."""
         text, c = self.operand(of[0])
         self.lines.append(f"switch ({text}) {{")
@@ -234,7 +230,7 @@ class Body(Values):
             arms[-1] += " default:"
         for arm in arms:
             self.lines.append(f"{arm} {{")
-            self.statement(walk, end)
+            self.statement(walk, around)
             self.lines += ["break;", "}"]
         self.lines.append("}")
 
@@ -244,9 +240,9 @@ class Body(Values):
         self.statement(walk)
         if next(walk, None) is not None:
             raise Unknown("more behind the body")
-        own = [i for i in range(len(self.locals)) if (i == 0 or i > self.function["params"]) and not self.unit(i)]
+        own = [i for i, t in enumerate(self.locals) if (i == 0 or i > self.function["params"]) and t != UNIT]
         held = [f"{self.shapes.c(self.locals[i])} l{i};".replace("* ", "*") for i in own if i == 0 or i in self.read and i not in self.constants]
-        unread = [f"(void)l{i};" for i in range(1, self.function["params"] + 1) if i not in self.read]
+        unread = [f"(void)l{i};" for i in self.parameters() if i not in self.read]
         return self.tables + [self.signature(), "{"] + indented(held + unread + self.lines) + ["}"]
 
 
@@ -256,7 +252,7 @@ def indented(lines):
     for line in lines:
         if line.startswith("}"):
             deep -= 1
-        out.append("    " * (deep - line.startswith("end")) + line)
+        out.append("    " * (deep - line.startswith(("end", "again"))) + line)
         if line.endswith("{"):
             deep += 1
     return out

@@ -2,14 +2,16 @@
 
 A struct of more than a word comes back from a call packed, or in memory: stored field by field and then copied by more bytes at a time, for which a processor
 lets the copy wait, some tens of cycles for each call. So a function that answers one is expanded in place, unless code is to be small. One that calls itself
-cannot be, and what it calls is left to the compiler: its own memory is there once for each level. A function with much memory of its own is kept apart, so that
+cannot be, and what it calls is left to the compiler: its own memory is there once for each level. A short function that was written for many types, or is an
+impl's or a closure's, is expanded in place everywhere: iterators, `?` and closures then cost what a loop and a branch do. A function with much memory of its own is kept apart, so that
 this is given back before its caller asks for more."""
-from shapes import one
-
-# Bytes of a word; bytes of locals above which a function is kept apart; bytes of a pointer, of which a slice has two.
+# Bytes of a word; bytes of locals above which a function is kept apart.
 WORD = 8
 MEMORY = 4096
-POINTER_BYTES = 8
+
+# Forms of a body and bytes of locals up to which a helper is expanded in place, also in a function that calls itself.
+HELPER_FORMS = 80
+HELPER_BYTES = 512
 
 WORDS = """\
 #if defined(__GNUC__)
@@ -22,33 +24,6 @@ WORDS = """\
 #else
 #define RT_HERE inline
 #endif"""
-
-
-def row(parts):
-    """Bytes and alignment of parts in a row, as C lays them out."""
-    at, most = 0, 1
-    for size, alignment in parts:
-        at += -at % alignment + size
-        most = max(most, alignment)
-    return at + -at % most, most
-
-
-def laid(shapes, t):
-    """Bytes and alignment of a type; of an enum those of its longest variant, which may have fewer slots than all of them together."""
-    if not isinstance(t, dict):
-        return (POINTER_BYTES, POINTER_BYTES) if t == "Ptr" else (1, 1)
-    word, of = one(t, "type")
-    if word == "Int":
-        return of // 8, of // 8
-    if word == "Array":
-        size, alignment = laid(shapes, of[0])
-        return size * of[1]["Lit"], alignment
-    if word == "Named":
-        kind, held = one(shapes.named[of["name"]], "shape")
-        if kind == "Fields":
-            return row(laid(shapes, f) for f in held)
-        return max(row([(1, 1), *(laid(shapes, f) for f in fields)]) for fields in held)
-    return POINTER_BYTES * (2 if word == "Struct" else 1), POINTER_BYTES
 
 
 class Calls:
@@ -70,11 +45,18 @@ class Calls:
                 left += self.called[callee]
         return seen
 
+    def helps(self, name):
+        """Whether a function is a short one that was written for many types, or stands for a trait's or is a closure's: its caller is to see through it."""
+        function = self.functions[name]
+        return function.get("helper", False) and len(function["body"]) <= HELPER_FORMS
+
     def word(self, name, shapes, constants):
         """How a function is declared after `static`, where these locals are constants and take no memory of its own."""
         types = [local["ty"] for local in self.functions[name]["locals"]]
-        if sum(laid(shapes, t)[0] for i, t in enumerate(types) if i not in constants) > MEMORY:
+        if sum(shapes.laid(t)[0] for i, t in enumerate(types) if i not in constants) > MEMORY:
             return "RT_APART"
-        if laid(shapes, types[0])[0] > WORD and name not in self.again | self.by_these:
+        if shapes.laid(types[0])[0] > WORD and name not in self.again | self.by_these:
+            return "RT_HERE"
+        if self.helps(name) and name not in self.again and sum(shapes.laid(t)[0] for t in types) <= HELPER_BYTES:
             return "RT_HERE"
         return "inline"

@@ -1,9 +1,13 @@
-"""Today's MIR in the forms that the rest of the translator knows.
+"""The MIR of an instance in the forms that the rest of the translator knows.
 
-A call names a function with the types and bounds that it is given, of which these programs have none; a declared type stands with its type arguments, likewise
-none; the count of a repeated value is a form of its own; a wrapping sum has an operation of its own, and is what the unsigned sum of C is; bytes of a text are lent from a table of their own, which is a local array
-here that is assigned once, so that the translator keeps it as a constant."""
+Instances have no types and bounds left (instances.py): a call or a type that still has some is refused. The count of a repeated value is a form of its own;
+wrapping arithmetic has operations of its own, and is what unsigned arithmetic of C is; a text's bytes and other constants are lent from a table of their own,
+which is a local here that is assigned once, so that the translator keeps it as a constant."""
 from shapes import Unknown
+
+
+TABLES = {"Int", "Bool", "Parts", "Repeat"}
+WRAPPING = {"WrapAdd": "Add", "WrapSub": "Sub", "WrapMul": "Mul"}
 
 
 def plain(given, where):
@@ -28,8 +32,8 @@ def rewritten(form):
             return {"Direct": of[0]}
         if word == "Repeat" and isinstance(of[1], dict) and set(of[1]) == {"Lit"}:
             return {"Repeat": [rewritten(of[0]), of[1]["Lit"]]}
-        if word == "Op2" and of[0] == "WrapAdd":
-            return {"Op2": [{"Add": "Unsigned"}, *rewritten(of[1:])]}
+        if word == "Op2" and isinstance(of[0], str) and of[0] in WRAPPING:
+            return {"Op2": [{WRAPPING[of[0]]: "Unsigned"}, *rewritten(of[1:])]}
     return {word: rewritten(of) for word, of in form.items()}
 
 
@@ -38,13 +42,16 @@ def known(function):
     locals_, body = rewritten(function["locals"]), []
     for s in rewritten(function["body"]):
         if isinstance(s, dict) and "LendStatic" in s:
-            place, array, held = s["LendStatic"]
-            if set(held) != {"Ints"}:
-                raise Unknown(f"a table of {next(iter(held))}")
+            place, t, held = s["LendStatic"]
             table = {"local": len(locals_), "steps": []}
-            locals_.append({"ty": array, "home": "ValueLocal"})
-            values = [{"Int": {"width": held["Ints"]["width"], "value": value}} for value in held["Ints"]["values"]]
-            body += [{"Assign": [table, {"Aggregate": values}]}, "Seq"]
+            locals_.append({"ty": t, "home": "ValueLocal"})
+            if set(held) == {"Ints"} and "Array" in t:
+                value = {"Aggregate": [{"Int": {"width": held["Ints"]["width"], "value": value}} for value in held["Ints"]["values"]]}
+            elif set(held) <= TABLES:
+                value = {"Table": held}
+            else:
+                raise Unknown(f"a table of {next(iter(held))}")
+            body += [{"Assign": [table, value]}, "Seq"]
             s = {"Assign": [place, {"AddrOf": table}]}
         body.append(s)
     return {**function, "locals": locals_, "types": rewritten(function["types"]), "body": body}

@@ -2,7 +2,8 @@
 
 Integers are unsigned in C, whatever their sign in the MIR: a signed one is kept in two's complement, and what reads its sign says so. References and raw
 pointers are byte pointers, a slice is one with a length of 64 bits, an enum its tag and slots for the fields of its variants: a slot serves one field of each
-variant, all of one type, so that no union hides from a compiler what is where."""
+variant, all of one type, so that no union hides from a compiler what is where. A unit has no place in any of them; a struct of nothing, as a closure that
+keeps nothing, has one byte."""
 
 
 class Unknown(Exception):
@@ -24,7 +25,19 @@ def c_name(name):
     return text
 
 
+def row(parts):
+    """Bytes and alignment of parts in a row, as C lays them out."""
+    at, most = 0, 1
+    for size, alignment in parts:
+        at += -at % alignment + size
+        most = max(most, alignment)
+    return at + -at % most, most
+
+
+# Widths of numbers in bits, and bytes of a pointer, of which a slice has two.
 WIDTHS = (8, 16, 32, 64)
+POINTER_BYTES = 8
+UNIT = "Unit"
 POINTER = "uint8_t *"
 SLICE = "rt_slice"
 
@@ -49,14 +62,8 @@ RT_ASSERT(pointer, offsetof(rt_slice, p) == 0);"""
 class Shapes:
     """The C types of the functions that are written, each defined after those that it is made of."""
 
-    def __init__(self, functions):
-        self.named = {}
-        for name in sorted(functions):
-            for declared in functions[name]["types"]:
-                known = self.named.setdefault(declared["name"], declared["shape"])
-                if known != declared["shape"]:
-                    raise Unknown(f"two shapes of {declared['name']}")
-        self.defined = {}
+    def __init__(self, named):
+        self.named, self.defined = named, {}
         self.lines = []
 
     def c(self, t):
@@ -92,7 +99,7 @@ class Shapes:
                 raise Unknown(f"type {name} has no shape")
             word, of = one(self.named[name], f"shape of {name}")
             if word == "Fields":
-                members = [f"    {self.c(t)} f{i};" for i, t in enumerate(of)] or ["    uint8_t none;"]
+                members = [f"    {self.c(t)} f{i};" for i, t in enumerate(of) if t != UNIT] or ["    uint8_t none;"]
             elif word == "Variants":
                 members = ["    uint8_t tag;"] + [f"    {c} s{j};" for j, c in enumerate(self.slots(name)[0])]
             else:
@@ -101,17 +108,27 @@ class Shapes:
         return self.defined[name]
 
     def slots(self, name):
-        """The C types of an enum's slots, and for each variant the slots of its fields: the first of the field's type that the variant has not taken."""
-        slots, places = [], []
+        """The C types of an enum's slots, and for each variant the slots of its fields: the first of the field's type that the variant has not taken. A unit has
+        none."""
+        slots, places, _ = self.slotted(name)
+        return slots, places
+
+    def slot_types(self, name):
+        return self.slotted(name)[2]
+
+    def slotted(self, name):
+        slots, places, types = [], [], []
         for fields in self.named[name]["Variants"]:
             taken = []
-            for c in [self.c(t) for t in fields]:
+            for t in fields:
+                c = None if t == UNIT else self.c(t)
                 free = [j for j, slot in enumerate(slots) if slot == c and j not in taken]
-                if not free:
+                if c and not free:
                     slots.append(c)
-                taken.append(free[0] if free else len(slots) - 1)
+                    types.append(t)
+                taken.append(None if c is None else free[0] if free else len(slots) - 1)
             places.append(taken)
-        return slots, places
+        return slots, places, types
 
     def array(self, of):
         element, count = of[0], of[1].get("Lit")
@@ -126,20 +143,48 @@ class Shapes:
                 self.lines.append(f"RT_ASSERT({name}, sizeof(struct {name}) == {size * count} && offsetof(struct {name}, a) == 0);")
         return self.defined[name]
 
-    def size(self, t):
-        """Bytes from one element of an array or a slice to the next, which the MIR multiplies by: known of numbers, and of a struct of numbers of one width,
-        which any layout places without gaps. Asserted of the C type."""
+    def laid(self, t):
+        """Bytes and alignment of a type in the MIR: an enum is a tag and the fields of its longest variant."""
+        if not isinstance(t, dict):
+            return (POINTER_BYTES, POINTER_BYTES) if t == "Ptr" else (int(t != UNIT), 1)
+        word, of = one(t, "type")
+        if word == "Int":
+            return of // 8, of // 8
+        if word == "Array":
+            size, alignment = self.laid(of[0])
+            return size * of[1]["Lit"], alignment
+        if word == "Named":
+            kind, held = one(self.named[of["name"]], "shape")
+            if kind == "Fields":
+                return row(self.laid(f) for f in held)
+            return max(row([(1, 1), *(self.laid(f) for f in fields)]) for fields in held)
+        return POINTER_BYTES * (2 if word == "Struct" else 1), POINTER_BYTES
+
+    def in_c(self, t):
+        """Bytes and alignment of its C type, where that holds no pointer, whose size is the target's."""
         if t == "Bool":
-            return 1
-        if isinstance(t, dict) and t.get("Int") in WIDTHS:
-            return t["Int"] // 8
+            return 1, 1
         word, of = one(t, "element")
-        shape = self.named.get(of["name"], {}) if word == "Named" else {}
-        sizes = [self.size(f) for f in shape.get("Fields", [])]
-        if not sizes or len(set(sizes)) != 1:
+        if word == "Int" and of in WIDTHS:
+            return of // 8, of // 8
+        if word == "Array" and of[1].get("Lit"):
+            size, alignment = self.in_c(of[0])
+            return size * of[1]["Lit"], alignment
+        kind, held = one(self.named.get(of["name"]), "element") if word == "Named" else (word, [])
+        if kind == "Fields" and any(f != UNIT for f in held):
+            return row(self.in_c(f) for f in held if f != UNIT)
+        if kind == "Variants":
+            return row([(1, 1), *(self.in_c(t) for t in self.slot_types(of["name"]))])
+        raise Unknown(f"the size of an element {t!r}")
+
+    def size(self, t):
+        """Bytes from one element of an array or a slice to the next, which the MIR multiplies by: known where the MIR and C lay it out alike. Asserted of the
+        C type, unless it is a number."""
+        size = self.laid(t)[0]
+        if self.in_c(t)[0] != size or not size:
             raise Unknown(f"the size of an element {t!r}")
-        c = self.c(t)
-        if c not in self.defined.values() or "size of " + c not in self.defined:
+        if isinstance(t, dict) and "Named" in t and "size of " + self.c(t) not in self.defined:
+            c = self.c(t)
             self.defined["size of " + c] = c
-            self.lines.append(f"RT_ASSERT({c_name(of['name'])}, sizeof({c}) == {sum(sizes)});")
-        return sum(sizes)
+            self.lines.append(f"RT_ASSERT({c_name(t['Named']['name'])}, sizeof({c}) == {size});")
+        return size

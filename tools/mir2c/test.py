@@ -366,7 +366,7 @@ class Refusals(unittest.TestCase):
         self.changed("t::t_f: ", lambda f: f["body"].pop())
 
     def test_types(self):
-        odd = {"name": "t::Odd", "lifetimes": 0, "bounds": [], "shape": {"Fields": [int_(8), U64]}}
+        odd = {"name": "t::Odd", "lifetimes": 0, "bounds": [], "shape": {"Variants": [[int_(32)], [int_(8), int_(16)]]}}
 
         def local(t, *types):
             def change(f):
@@ -398,6 +398,33 @@ class Refusals(unittest.TestCase):
         self.assertEqual(lent["locals"][2]["ty"], {"Array": [int_(8), {"Lit": 3}]})
         f["body"][1] = {"LendStatic": [place, {"Array": [BOOL, {"Lit": 3}]}, {"Bools": []}]}
         self.assertRaisesRegex(Unknown, "a table of Bools", known, f)
+
+    def test_instances(self):
+        """A function is given as many types and bounds as it declares, a method is one of an impl that is declared, and no bound is left open."""
+        given, place, kind = {"types": [U64], "dicts": []}, {"local": 3, "steps": []}, {"is_copy": True, "is_kept": False, "const_bits": None}
+        generic = {**function([], [{"Param": 0}]), "generics": {"types": [kind], "bounds": [], "method_of": None, "impls": []}}
+        impl = {"name": "t::I", "of": {"of": "t::T", "lifetimes": [], "types": [U64]}, "types": [], "bounds": [], "methods": ["t::m"]}
+        method = {**function([U64], []), "generics": {**generic["generics"], "types": [], "method_of": {"Impl": ["t::I", 0]}, "impls": [impl]}}
+        method["locals"][0] = {"ty": U64, "home": "ValueLocal"}
+        method["body"] = sequence(put(0, {"Opd": copy_of(1)}), "Return")
+        functions = {"g": generic, "m": method}
+
+        def calling(callee):
+            f = good()
+            f["body"] = sequence({"Call": [callee, [copy_of(1)], place]}, answer(copy_of(3)), "Return")
+            return {**functions, "t_f": f}
+
+        impl_of = {"Impl": ["t::I", [], []]}
+        self.assertEqual(ran(calling({"Method": [impl_of, 0, {"types": [], "dicts": []}]}), [("t_f", 5, 6, 5)]), [5])
+        self.refused(calling({"Fn": ["t::g", {"types": [], "dicts": []}]}), "t::g with 0 types")
+        self.refused(calling({"Fn": ["t::g", {"types": [U64, U64], "dicts": []}]}), "t::g with 2 types")
+        self.refused(calling({"Fn": ["t::g", {"types": [U64], "dicts": [impl_of]}]}), "t::g with 1 types and 1 bounds")
+        self.refused(calling({"Fn": ["t::absent", given]}), "t::absent, no function")
+        self.refused(calling({"Method": [impl_of, 1, {"types": [], "dicts": []}]}), "method 1 of t::I")
+        self.refused(calling({"Method": [{"Impl": ["t::J", [], []]}, 0, {"types": [], "dicts": []}]}), "no impl t::J")
+        self.refused(calling({"Method": [{"Dynamic": 0}, 0, {"types": [], "dicts": []}]}), "a call")
+        functions["m"]["generics"]["method_of"] = {"Impl": ["t::I", 1]}
+        self.refused(calling({"Method": [impl_of, 0, {"types": [], "dicts": []}]}), "method 0 of t::I")
 
     def test_headers(self):
         f, lent = good(), function([slice_of(U64)], [U64], put(2, {"Opd": copy_of(1, {"Field": 1})}), answer(copy_of(2)))

@@ -2,7 +2,7 @@
 
 No operation is left to C's promotions: operands are taken to 32 or 64 unsigned bits and the result back to its width, so that nothing overflows a signed
 type and every shift is one of an unsigned number. Locals are l0, l1, ..; l0 is the result."""
-from shapes import POINTER, SLICE, Unknown, one
+from shapes import POINTER, SLICE, UNIT, Unknown, one
 
 # Operations whose bits do not ask for the sign of their operands.
 BITS = {"Add": "+", "Sub": "-", "Mul": "*", "And": "&", "Or": "|", "Xor": "^"}
@@ -31,10 +31,20 @@ static uint64_t rt_signed_rem(uint64_t a, uint64_t b)
 }
 
 
+# What is proved to be reached by no input.
+NEVER = """\
+#if defined(__GNUC__)
+#define RT_NEVER __builtin_unreachable()
+#else
+#define RT_NEVER ((void)0)
+#endif"""
+
+
 def helpers(lines):
     """The helpers that these lines call."""
     used = [text for name, text in RATIO_HELPERS.items() if any(name in line for line in lines)]
-    return [SIZE, *used] if used else []
+    never = [NEVER] if any("RT_NEVER" in line for line in lines) else []
+    return never + ([SIZE, *used] if used else [])
 
 
 def bits(c):
@@ -82,7 +92,7 @@ class Values:
             elif word == "Field":
                 text, t, variant = *self.field(text, t, variant, of), None
             elif word == "Deref" and variant is None and self.shapes.c(t) == POINTER:
-                text, t = f"(*({self.shapes.c(of)} *){text})", of
+                text, t = text if of == UNIT else f"(*({self.shapes.c(of)} *){text})", of
             else:
                 raise Unknown(f"step {step!r} of {t!r}")
         if variant is not None:
@@ -99,8 +109,40 @@ class Values:
         if kind == "Variants" and variant is not None:
             if k == 0:
                 return f"{text}.tag", {"Int": 8}
+            if held[variant][k - 1] == UNIT:
+                return text, UNIT
             return f"{text}.s{self.shapes.slots(of['name'])[1][variant][k - 1]}", held[variant][k - 1]
         raise Unknown(f"field {k} of {t!r}, variant {variant!r}")
+
+    def empty(self, p):
+        """Whether a place holds nothing: a unit, alone, in another place or behind a reference. What is no place is refused where it is written."""
+        t, variant = self.locals[p["local"]], None
+        for step in p["steps"]:
+            word, of = one(step, "step")
+            if word == "Variant":
+                variant = of
+            elif word == "Deref":
+                t = of
+            else:
+                t = self.member(t, variant, of)
+        return t == UNIT
+
+    def member(self, t, variant, k):
+        """The type of a field, or nothing where there is none."""
+        word, of = next(iter(t.items())) if isinstance(t, dict) else (t, None)
+        shape = self.shapes.named.get(of["name"], {}) if word == "Named" else {}
+        held = of[1] if word == "Struct" else shape.get("Fields", [])
+        if "Variants" in shape:
+            held = [{"Int": 8}, *(shape["Variants"][variant] if variant is not None and variant < len(shape["Variants"]) else [])]
+        return held[k] if isinstance(k, int) and k < len(held) else None
+
+    def unit(self, o):
+        """Whether an operand holds nothing: it is not written."""
+        return o == UNIT or isinstance(o, dict) and "Copy" in o and self.empty(o["Copy"])
+
+    def held(self, operands):
+        """C texts and C types of the operands that hold something."""
+        return [self.operand(o) for o in operands if not self.unit(o)]
 
     def operand(self, o):
         """C text and C type."""
@@ -113,6 +155,8 @@ class Values:
         if word == "Int":
             c = self.shapes.c({"Int": of["width"]})
             return number(of["value"], of["width"]), c
+        if word == "SizeOf":
+            return number(self.shapes.size(of), 64), "uint64_t"
         raise Unknown(f"operand {o!r}")
 
     # What is computed
@@ -126,12 +170,24 @@ class Values:
             return text
         if word == "AddrOf":
             self.same(POINTER, c, "address")
-            return f"(uint8_t *)&{self.place(of)[0]}"
+            return self.address(of)
         if word == "Op1":
             return self.unary(of, c, t == "Bool")
         if word == "Op2":
             return self.binary(of, c)
         raise Unknown(f"value {word}")
+
+    def address(self, p):
+        """The address of a place. Nothing is read through that of a unit: it is that of the place that the unit is in, or null."""
+        text, t = self.place(p)
+        if t != UNIT:
+            return f"(uint8_t *)&{text}"
+        before = {**p, "steps": p["steps"][:-1]}
+        if not p["steps"]:
+            return "(uint8_t *)0"
+        if "Deref" in p["steps"][-1]:
+            return self.place(before)[0]
+        return self.address({**before, "steps": before["steps"][:-1]} if before["steps"] and "Variant" in before["steps"][-1] else before)
 
     def unary(self, of, c, truth):
         (text, given), op = self.operand(of[1]), of[0]

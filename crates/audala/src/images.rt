@@ -2,9 +2,11 @@
 // a program, 17 for a table.
 ghost use Rattle.std.specs.Prelude.{◌≡◌, length};
 ghost use Rattle.blocks.specs.Images.{stream, read, read_into, write, written_into};
-ghost use Rattle.audala.specs.Images.{exported_read, exported_write};
+ghost use Rattle.types.specs.Refusals.{number};
+ghost use Rattle.audala.specs.Images.{copied, exported_read, exported_write};
 
-use blocks::{Read, Written};
+use blocks::{ReadError, WriteError};
+use types::refusal::Refusal;
 
 // What reading or writing an image answers: a number, and how many bytes of the stream or blocks of the image were written, 0 after a refusal.
 #[repr(C)]
@@ -14,46 +16,51 @@ pub struct Copied {
     pub count: usize,
 }
 
-// What reading answers, as the library hands it over.
-fn of_read(r: Read) -> Copied
-    ensures { result ≡ exported_read r }
-{
-    match r {
-        Read::Stream(n) => Copied {
-            number: 0,
-            count: n,
-        },
-        Read::Refused(f) => {
-            let number = blocks::program_number(f);
-            Copied {
-                number: number as u32,
-                count: 0,
-            }
-        }
-        Read::Short => Copied {
-            number: types::number::NO_ROOM as u32,
+impl Copied {
+    // So many bytes or blocks.
+    pub fn done(count: usize) -> Copied
+        ensures { result ≡ copied 0 count }
+    {
+        Copied { number: 0, count }
+    }
+}
+
+impl From<Refusal> for Copied {
+    ghost from_gives = { λ r answer. answer ≡ copied (number r) 0 };
+
+    fn from(refusal: Refusal) -> Copied {
+        Copied {
+            number: u32::from(u8::from(refusal)),
             count: 0,
-        },
+        }
+    }
+}
+
+// What reading answers, as the library hands it over.
+impl From<Result<usize, ReadError>> for Copied {
+    ghost from_gives = { λ r answer. answer ≡ exported_read r };
+
+    #[tactic(auto, unfolding(crate::specs::Images::exported_read))]
+    fn from(read: Result<usize, ReadError>) -> Copied {
+        match read {
+            Ok(n) => Copied::done(n),
+            Err(ReadError::Faulty(fault)) => Copied::from(blocks::program_number(fault)),
+            Err(ReadError::Short) => Copied::from(Refusal::NoRoom),
+        }
     }
 }
 
 // What writing answers, as the library hands it over.
-fn of_written(r: Written) -> Copied
-    ensures { result ≡ exported_write r }
-{
-    match r {
-        Written::Blocks(n) => Copied {
-            number: 0,
-            count: n,
-        },
-        Written::Length => Copied {
-            number: types::number::PROGRAM_LENGTH as u32,
-            count: 0,
-        },
-        Written::Short => Copied {
-            number: types::number::NO_ROOM as u32,
-            count: 0,
-        },
+impl From<Result<usize, WriteError>> for Copied {
+    ghost from_gives = { λ r answer. answer ≡ exported_write r };
+
+    #[tactic(auto, unfolding(crate::specs::Images::exported_write))]
+    fn from(written: Result<usize, WriteError>) -> Copied {
+        match written {
+            Ok(n) => Copied::done(n),
+            Err(WriteError::Length) => Copied::from(Refusal::ProgramLength),
+            Err(WriteError::Short) => Copied::from(Refusal::NoRoom),
+        }
     }
 }
 
@@ -63,8 +70,7 @@ pub fn audala_read_image(image: &[u8], most: usize, buffer: &mut [u8]) -> Copied
     ensures buffer_after { buffer.new
         ≡ read_into (read most image.now (length buffer.old)) (stream image.now) buffer.old }
 {
-    let r = blocks::read_image(image, most, buffer);
-    of_read(r)
+    Copied::from(blocks::read_image(image, most, buffer))
 }
 
 // The image of a stream in at most so many blocks, in the front of the output.
@@ -73,6 +79,5 @@ pub fn audala_write_image(bytes: &[u8], most: usize, output: &mut [u8]) -> Copie
     ensures output_after { output.new
         ≡ written_into (write most (length bytes.now) (length output.old)) bytes.now output.old }
 {
-    let r = blocks::write_image(bytes, most, output);
-    of_written(r)
+    Copied::from(blocks::write_image(bytes, most, output))
 }

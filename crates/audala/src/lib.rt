@@ -14,6 +14,9 @@ ghost use Rattle.verdict.specs.Verdict.{check_verdict, check_list};
 ghost use Rattle.run.specs.Entry.{run_report, run_output, run_list};
 ghost use Rattle.step_part.specs.StepPart.{step_place};
 ghost use Rattle.audala.specs.Exported.{exported, exported_part, exported_report};
+ghost use Rattle.audala.specs.Handed.{handed_verdict, handed_report};
+
+use checker::Verdict;
 
 // What a check answers; after a refusal all but the number are 0.
 #[repr(C)]
@@ -26,19 +29,26 @@ pub struct Answer {
     pub depth: u32,
 }
 
+impl From<Verdict> for Answer {
+    ghost from_gives = { λ v answer. answer ≡ handed_verdict v };
+
+    fn from(v: Verdict) -> Answer {
+        Answer {
+            number: u32::from(v.number),
+            structs: u32::from(v.structs),
+            steps: u32::from(v.steps),
+            commands: u32::from(v.commands),
+            depth: u32::from(v.depth),
+        }
+    }
+}
+
 // A program image to a verdict, and its commands to the list.
 pub fn audala_check(image: &[u8], list: &mut [u64]) -> Answer
     ensures value { result ≡ exported (check_verdict image.now list.old) }
     ensures list_after { list.new ≡ check_list image.now list.old }
 {
-    let v = checker::check(image, list);
-    Answer {
-        number: v.number as u32,
-        structs: v.structs as u32,
-        steps: v.steps as u32,
-        commands: v.commands as u32,
-        depth: v.depth as u32,
-    }
+    Answer::from(checker::check(image, list))
 }
 
 // The number of a refusal, else 0; where a part of the list begins, and how many places it has.
@@ -50,13 +60,13 @@ pub struct Part {
     pub length: u32,
 }
 
-// The part of the list for a step; it begins at 0 and has 0 places where the image or the list is refused or the step is not there.
+// The part of the list for a step, whose places fit 32 bits as no `From` could know; it begins at 0 and has 0 places where the image or the list is refused or the step is not there.
 pub fn audala_step(image: &[u8], list: &[u64], structure: u8, name: u8) -> Part
     ensures { result ≡ exported_part (step_place image.now list.now structure name) }
 {
     let p = step_part::step_place(image, list, structure, name);
     Part {
-        number: p.number as u32,
+        number: u32::from(p.number),
         start: p.start as u32,
         length: p.len as u32,
     }
@@ -73,6 +83,20 @@ pub struct Report {
     pub holding: u32,
 }
 
+impl From<run_images::Report> for Report {
+    ghost from_gives = { λ r report. report ≡ handed_report r };
+
+    fn from(r: run_images::Report) -> Report {
+        Report {
+            number: u32::from(r.number),
+            turns: r.turns,
+            blocks: u32::from(r.blocks),
+            depth: u32::from(r.depth),
+            holding: u32::from(r.holding),
+        }
+    }
+}
+
 // A program image, a table image and turn bytes to a report, the last table to the output and the commands to the list.
 pub fn audala_run(
     program: &[u8],
@@ -87,12 +111,5 @@ pub fn audala_run(
         ≡ run_output program.now table.now turns.now output.old list.old }
     ensures list_after { list.new ≡ run_list program.now table.now turns.now output.old list.old }
 {
-    let r = run_images::run(program, table, turns, output, list);
-    Report {
-        number: r.number as u32,
-        turns: r.turns,
-        blocks: r.blocks as u32,
-        depth: r.depth as u32,
-        holding: r.holding as u32,
-    }
+    Report::from(run_images::run(program, table, turns, output, list))
 }

@@ -5,6 +5,7 @@ ghost use Rattle.audala.specs.Listed.{exported_listing, listed};
 
 use crate::images::Copied;
 use listing::image;
+use types::refusal::Refusal;
 
 // The listing of an image in the front of the output, and the count of its bytes; 13 where the output is shorter than any listing may be.
 pub fn audala_listing(image: &[u8], output: &mut [u8]) -> Copied
@@ -12,14 +13,7 @@ pub fn audala_listing(image: &[u8], output: &mut [u8]) -> Copied
     ensures output_after { output.new ≡ listed (listing_of image.now) output.old }
 {
     if output.len() < image::LISTING_BYTES {
-        return Copied {
-            number: types::number::NO_ROOM as u32,
-            count: 0,
-        };
+        return Copied::from(Refusal::NoRoom);
     }
-    let n = image::listing(image, output);
-    Copied {
-        number: 0,
-        count: n,
-    }
+    Copied::done(image::listing(image, output))
 }

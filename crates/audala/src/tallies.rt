@@ -2,6 +2,7 @@
 ghost use Rattle.std.specs.Prelude.{◌≡◌};
 ghost use Rattle.counts.specs.CountEntry.{count, count_list};
 ghost use Rattle.audala.specs.Counted.{exported_counts};
+ghost use Rattle.audala.specs.Handed.{handed_counts};
 
 // What a count answers; after a number from the input all but the number are 0.
 #[repr(C)]
@@ -11,6 +12,19 @@ pub struct Counts {
     pub truths: u32,
     pub falsehoods: u32,
     pub stops: u32,
+}
+
+impl From<count_images::Counts> for Counts {
+    ghost from_gives = { λ c counts. counts ≡ handed_counts c };
+
+    fn from(c: count_images::Counts) -> Counts {
+        Counts {
+            number: u32::from(c.number),
+            truths: c.truths,
+            falsehoods: c.falsehoods,
+            stops: c.stops,
+        }
+    }
 }
 
 // A program image, a table image, a step name, a label and a parameter to the three counts, and the commands to the list.
@@ -25,11 +39,5 @@ pub fn audala_count(
     ensures value { result ≡ exported_counts (count program.now table.now name label parameter list.old) }
     ensures list_after { list.new ≡ count_list program.now table.now name label parameter list.old }
 {
-    let c = count_images::count(program, table, name, label, parameter, list);
-    Counts {
-        number: c.number as u32,
-        truths: c.truths,
-        falsehoods: c.falsehoods,
-        stops: c.stops,
-    }
+    Counts::from(count_images::count(program, table, name, label, parameter, list))
 }

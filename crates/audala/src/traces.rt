@@ -3,6 +3,7 @@ ghost use Rattle.std.specs.Prelude.{◌≡◌, length};
 ghost use Rattle.trace.specs.TraceText.{trace_text};
 ghost use Rattle.trace.specs.TracePage.{traced_number, traced_turns, paged};
 ghost use Rattle.audala.specs.Exported.{exported_page};
+ghost use Rattle.audala.specs.Handed.{handed_page};
 
 // What a page answers: the number and the turns of the run, how many bytes the whole text of its trace has, and how many of them were written.
 #[repr(C)]
@@ -12,6 +13,19 @@ pub struct Traced {
     pub turns: u32,
     pub length: u64,
     pub count: usize,
+}
+
+impl From<trace_images::Traced> for Traced {
+    ghost from_gives = { λ r traced. traced ≡ handed_page r };
+
+    fn from(r: trace_images::Traced) -> Traced {
+        Traced {
+            number: u32::from(r.number),
+            turns: r.turns,
+            length: r.length as u64,
+            count: r.count,
+        }
+    }
 }
 
 // Of the text of a trace the bytes from a place on, as many as the output holds, in the front of the output.
@@ -28,11 +42,5 @@ pub fn audala_trace(
     ensures output_after { output.new
         ≡ paged from (trace_text program.now table.now turns.now) output.old }
 {
-    let r = trace_images::trace(program, table, turns, from as usize, output);
-    Traced {
-        number: r.number as u32,
-        turns: r.turns,
-        length: r.length as u64,
-        count: r.count,
-    }
+    Traced::from(trace_images::trace(program, table, turns, from as usize, output))
 }

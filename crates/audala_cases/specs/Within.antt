@@ -1,8 +1,6 @@
 -- A number that was read is within its bound.
-use Rattle.std.specs.Prelude.{ℕ, ◌≤◌}
-use Rattle.audala_cases.specs.declared.Size.{Size}
-use Rattle.audala_cases.specs.declared.Size.TheVariants.{Of, Nothing}
+use Rattle.std.specs.Prelude.{ℕ, ◌≤◌, Result, IfOk}
+use Rattle.audala_cases.specs.declared.Stop.{Stop}
 
-abbrev pub Within : ℕ → Size → Type 0
-Within most (Of n) = n ≤ most
-Within most Nothing = Unit {0}
+abbrev pub Within : ℕ → Result ℕ Stop → Type 0
+Within most r = IfOk r (λ n. n ≤ most)

@@ -2,117 +2,101 @@
 // standard error with its number and, of 15, 16 and 17, the place at which reading stopped; nothing is written.
 #![tactic(auto)]
 
-ghost use Rattle.std.specs.Prelude.{◌+◌, ◌≤◌, ◌<◌};
+use blocks::BLOCK_SIZE;
+use std::fmt;
+use types::refusal::Refusal;
 
 // One byte more than a text may have, so that a longer one is told from the longest.
 const TEXT: usize = 65537;
 
-const IMAGE: usize = types::PROGRAM_BLOCKS * blocks::BLOCK_SIZE;
+const IMAGE: usize = types::PROGRAM_BLOCKS * BLOCK_SIZE;
 
-const LINE_END: u8 = 10;
-
-// The first n blocks of the image, of which there are at most 64.
-fn put(rt: &HostRuntime, image: &[u8], n: u32) {
-    if n <= 64 {
-        let bytes = 512 * n;
-        let m = io::count(bytes as isize, image);
-        files::output(rt, &image[..m]);
-    }
-}
+const HELP: &str = "audala_text < TEXT > IMAGE\n\
+    \n\
+    Reads a program as text and writes its image: blocks of 512 bytes. A text\n\
+    that is refused is told on standard error as 'refused' and the number, and\n\
+    nothing is written: 15 no token, or a text over 65536 bytes; 16 no\n\
+    derivation; 17 a name, a literal, an argument list or a count; each with\n\
+    the line and the column where reading stopped. The checker says whether the\n\
+    program is one to run: audala_text < TEXT | audala_list.\n\
+    docs/FORMAT.md has the text's grammar, and says what each number means.";
 
 // A line and a column, both from 1.
-#[derive(Clone, Copy)]
+#[derive(Clone, Copy, PartialEq, Eq, Debug)]
 struct Spot {
-    line: u64,
-    column: u64,
+    line: usize,
+    column: usize,
 }
 
-// The line behind a byte in a line.
-fn line_behind(line: u64, b: u8) -> u64
-    requires { line + 1 < 18446744073709551616 }
-    ensures { result ≤ line + 1 }
-{
-    if b == LINE_END {
-        return line + 1;
+impl Spot {
+    // Where the byte after some bytes stands.
+    fn after(front: &[u8]) -> Spot {
+        let ends = front.iter().filter(|b| **b == b'\n').count();
+        let last = front.iter().rev().take_while(|b| **b != b'\n').count();
+        Spot {
+            line: ends + 1,
+            column: last + 1,
+        }
     }
-    line
 }
 
-// The column behind a byte in a column.
-fn column_behind(column: u64, b: u8) -> u64
-    requires { column + 1 < 18446744073709551616 }
-    ensures { result ≤ column + 1 }
-{
-    if b == LINE_END {
-        return 1;
+impl fmt::Display for Spot {
+    fn fmt<W: fmt::Write>(&self, f: &mut fmt::Formatter<W>) -> fmt::Result {
+        let Spot { line, column } = self;
+        write!(f, "line {line}, column {column}")
     }
-    column + 1
 }
 
-// Where the byte behind some bytes stands.
-fn behind(front: &[u8]) -> Spot {
-    let mut line: u64 = 1;
-    let mut column: u64 = 1;
-    let mut i = 0;
-    while i < front.len() {
-        let b = front[i];
-        line = line_behind(line, b);
-        column = column_behind(column, b);
-        i += 1;
+// Why there is no image: the number of the refusal and, of 15, 16 and 17, the place.
+#[derive(Debug, Drop)]
+enum Failure {
+    Files(files::Failure),
+    Refused(u32),
+    Stopped(u32, Spot),
+}
+
+impl From<files::Failure> for Failure {
+    fn from(why: files::Failure) -> Failure {
+        Failure::Files(why)
     }
-    Spot { line, column }
 }
 
-// The place at which reading a text stopped.
-fn tell_place(rt: &HostRuntime, text: &[u8]) {
-    let at = text_place::place(text);
-    let s = behind(&text[..at]);
-    files::tell(rt, b", line ");
-    files::tell_number(rt, s.line);
-    files::tell(rt, b", column ");
-    files::tell_number(rt, s.column);
+impl fmt::Display for Failure {
+    fn fmt<W: fmt::Write>(&self, f: &mut fmt::Formatter<W>) -> fmt::Result {
+        match self {
+            Failure::Files(files::Failure::Usage) => write!(f, "{HELP}"),
+            Failure::Files(why) => write!(f, "{why}"),
+            Failure::Refused(number) => write!(f, "refused {number}"),
+            Failure::Stopped(number, spot) => write!(f, "refused {number}, {spot}"),
+        }
+    }
 }
 
-// Why there is no image: of 15, 16 and 17 with the place.
-fn refuse(rt: &HostRuntime, text: &[u8], n: u32) {
-    files::tell(rt, b"refused ");
-    files::tell_number(rt, n as u64);
+// Why a text has no image.
+fn refusal(text: &[u8], number: u32) -> Failure {
     // the least number that has a place
-    if types::number::NO_TOKEN as u32 <= n {
-        tell_place(rt, text);
+    if number < u32::from(u8::from(Refusal::NoToken)) {
+        return Failure::Refused(number);
     }
-    files::tell(rt, b"\n");
+    let at = text_place::place(text);
+    Failure::Stopped(number, Spot::after(&text[..at]))
 }
 
-// The image of a text, or why there is none.
-fn answer(rt: &HostRuntime, text: &[u8]) {
+fn run(rt: &HostRuntime) -> Result<(), Failure> {
+    let mut text = [0u8; TEXT];
+    let length = files::input(rt, &mut text)?;
     let mut image = [0u8; IMAGE];
-    let r = read_text::read(text, &mut image);
-    if r.number == 0 {
-        put(rt, &image, r.blocks);
-        return;
+    let read = read_text::read(&text[..length], &mut image);
+    if read.number != 0 {
+        return Err(refusal(&text[..length], read.number));
     }
-    refuse(rt, text, r.number);
+    let end = (BLOCK_SIZE * read.blocks as usize).min(IMAGE);
+    files::output(rt, &image[..end])?;
+    Ok(())
 }
 
 fn main(rt: HostRuntime) {
-    let mut text = [0u8; TEXT];
-    let r = files::input(
-        &rt,
-        b"audala_text < TEXT > IMAGE\n\
-        \n\
-        Reads a program as text and writes its image: blocks of 512 bytes. A text\n\
-        that is refused is told on standard error as 'refused' and the number, and\n\
-        nothing is written: 15 no token, or a text over 65536 bytes; 16 no\n\
-        derivation; 17 a name, a literal, an argument list or a count; each with\n\
-        the line and the column where reading stopped. The checker says whether the\n\
-        program is one to run: audala_text < TEXT | audala_list.\n\
-        docs/FORMAT.md has the text's grammar, and says what each number means.\n",
-        &mut text,
-    );
-    if !r.done {
-        return;
+    if let Err(why) = run(&rt) {
+        let _ = eprintln!(rt; "{why}");
     }
-    let n = r.len;
-    answer(&rt, &text[..n]);
 }

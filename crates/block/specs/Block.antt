@@ -4,8 +4,8 @@ use Rattle.std.proofs.Math.Seq.{slice}
 use Rattle.little_endian.specs.Numbers.{pair_at}
 use Rattle.block.specs.Sums.{byte, sum_a, sum_b}
 use Rattle.block.specs.declared.Fault.TheVariants.{Sum, Layout}
-use Rattle.block.specs.declared.Found.{Found}
-use Rattle.block.specs.declared.Found.TheVariants.{Right, Wrong}
+use Rattle.std.specs.Prelude.{Option, Some, None}
+use Rattle.block.specs.declared.Fault.{Fault}
 
 abbrev pub block_size : ℕ
 block_size = 512
@@ -64,9 +64,9 @@ unfoldable pub laid_out : ℕ → Bool → List ℕ → Bool
 laid_out k last b = index b == k && (used_right last (used b) && zeros (unused_part b))
 
 -- the first fault of a block: its sums before its layout
-unfoldable pub block_fault : ℕ → Bool → List ℕ → Found
+unfoldable pub block_fault : ℕ → Bool → List ℕ → Option Fault
 block_fault k last b =
-    elim (sums_right b) [ false ↦ Wrong Sum | true ↦ elim (laid_out k last b) [ false ↦ Wrong Layout | true ↦ Right ] ]
+    elim (sums_right b) [ false ↦ Some Sum | true ↦ elim (laid_out k last b) [ false ↦ Some Layout | true ↦ None ] ]
 
 -- The block of index k that holds the bytes p, of which there are at most 504 -------------------
 

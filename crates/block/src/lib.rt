@@ -4,31 +4,34 @@
 pub mod put;
 pub mod writing;
 
-ghost use Rattle.std.specs.Prelude.{◌≡◌, ◌+◌, ◌<◌, ◌≤◌, length, take, drop};
-ghost use Rattle.std.proofs.Math.Seq.{slice};
+ghost use Rattle.std.specs.Prelude.{◌≡◌, ◌+◌, ◌<◌, ◌≤◌, ◌↔◌, ◌&&◌, length, take, drop, slice_index, EachIndex, IsTrue};
 ghost use Rattle.block.specs.Sums.{sum_a, sum_b};
-ghost use Rattle.block.specs.Block.{sums_right, used_right, zeros, laid_out, block_fault};
+ghost use Rattle.block.specs.Block.{used, unused_part, sums_right, used_right, zeros, laid_out, block_fault};
 
 pub const BLOCK_SIZE: usize = 512;
 
 pub const PAYLOAD_SIZE: usize = 504;
 
-// The bytes that are summed, behind which the sums stand.
+// The bytes that are summed, and where the sums stand after them.
 pub const SUMMED: usize = 508;
 
+const SUM_A: usize = 508;
+
+const SUM_B: usize = 510;
+
+// Where a block's index, the count of its used bytes and its payload stand.
+const INDEX: usize = 0;
+
+pub const USED: usize = 2;
+
+pub(crate) const PAYLOAD: usize = 4;
+
 // What is wrong with an image.
-#[derive(Clone, Copy)]
+#[derive(Clone, Copy, PartialEq, Eq, Debug)]
 pub enum Fault {
     Length,
     Sum,
     Layout,
-}
-
-// What looking through a block or an image finds.
-#[derive(Clone, Copy)]
-pub enum Found {
-    Right,
-    Wrong(Fault),
 }
 
 // The two sums of a block.
@@ -45,11 +48,9 @@ pub(crate) fn sums(block: &[u8]) -> Both
 {
     let mut a: u16 = 0;
     let mut b: u16 = 0;
-    let mut i = 0;
-    while i < SUMMED {
-        a = std::num::wrapping_add_u16(a, block[i] as u16);
-        b = std::num::wrapping_add_u16(b, a);
-        i += 1;
+    for byte in &block[..SUMMED] {
+        a = a.wrapping_add(u16::from(*byte));
+        b = b.wrapping_add(a);
     }
     Both { a, b }
 }
@@ -59,65 +60,55 @@ fn sums_right(block: &[u8]) -> bool
     ensures { result ≡ sums_right block.now }
 {
     let s = sums(block);
-    if little_endian::pair_at(block, 508) != s.a as usize {
-        return false;
-    }
-    little_endian::pair_at(block, 510) == s.b as usize
+    little_endian::pair_at(block, SUM_A) == usize::from(s.a)
+        && little_endian::pair_at(block, SUM_B) == usize::from(s.b)
 }
 
-// Whether the bytes from there up to 507 are zero.
-fn zeros_from(block: &[u8], from: usize) -> bool
-    requires { 508 ≤ length block.now }
-    ensures { result ≡ zeros (slice from 508 block.now) }
+// Whether bytes are all zero.
+fn zeros(bytes: &[u8]) -> bool
+    ensures { IsTrue result ↔ EachIndex bytes.now (λ i. slice_index bytes.now i ≡ 0) }
 {
-    let mut at = from;
-    while at < SUMMED {
-        if block[at] != 0 {
-            return false;
-        }
-        at += 1;
-    }
-    true
+    bytes.iter().all(|byte| *byte == 0)
 }
 
 fn used_right(last: bool, used: usize) -> bool
     ensures { result ≡ used_right last used }
 {
     if last {
-        if used < 1 {
-            return false;
-        }
-        return used <= PAYLOAD_SIZE;
+        1 <= used && used <= PAYLOAD_SIZE
+    } else {
+        used == PAYLOAD_SIZE
     }
-    used == PAYLOAD_SIZE
+}
+
+// Whether as much of the payload is used as may be, and the rest is zero.
+fn filled(block: &[u8], last: bool) -> bool
+    requires { length block.now ≡ 512 }
+    ensures { result ≡ (used_right last (used block.now) && zeros (unused_part block.now)) }
+{
+    let used = little_endian::pair_at(block, USED);
+    used_right(last, used) && zeros(&block[PAYLOAD + used..SUMMED])
 }
 
 fn laid_out(block: &[u8], k: usize, last: bool) -> bool
     requires { length block.now ≡ 512 }
     ensures { result ≡ laid_out k last block.now }
 {
-    if little_endian::pair_at(block, 0) != k {
-        return false;
-    }
-    let used = little_endian::pair_at(block, 2);
-    if !used_right(last, used) {
-        return false;
-    }
-    zeros_from(block, 4 + used)
+    little_endian::pair_at(block, INDEX) == k && filled(block, last)
 }
 
 // The fault of block k, if it has one: the sums before the layout.
-pub fn block_fault(block: &[u8], k: usize, last: bool) -> Found
+pub fn block_fault(block: &[u8], k: usize, last: bool) -> Option<Fault>
     requires { length block.now ≡ 512 }
     ensures { result ≡ block_fault k last block.now }
 {
     if !sums_right(block) {
-        return Found::Wrong(Fault::Sum);
+        return Some(Fault::Sum);
     }
     if !laid_out(block, k, last) {
-        return Found::Wrong(Fault::Layout);
+        return Some(Fault::Layout);
     }
-    Found::Right
+    None
 }
 
 // The used part of a block's payload, as that part of the caller's slice.
@@ -125,6 +116,5 @@ pub fn payload<'a>(block: &'a [u8], used: usize) -> &'a [u8]
     requires { (used ≤ 504) × (length block.now ≡ 512) }
     ensures { result.now ≡ take used (drop 4 block.now) }
 {
-    let end = 4 + used;
-    &block[4..end]
+    &block[PAYLOAD..PAYLOAD + used]
 }

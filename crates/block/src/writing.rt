@@ -3,7 +3,8 @@ ghost use Rattle.std.specs.Prelude.{◌≡◌, ◌+◌, ◌<◌, ◌≤◌, leng
 ghost use Rattle.block.specs.Put.{put};
 ghost use Rattle.block.specs.Block.{front, block_of};
 
-use crate::{PAYLOAD_SIZE, SUMMED, put, sums};
+use crate::{PAYLOAD, PAYLOAD_SIZE, SUMMED, USED, put, sums};
+use little_endian::put_pair;
 
 // Bytes 0 to 507 of block k, which holds the bytes of part.
 fn put_front(out: &mut [u8], at: usize, k: usize, part: &[u8])
@@ -12,10 +13,10 @@ fn put_front(out: &mut [u8], at: usize, k: usize, part: &[u8])
     ensures { out.new ≡ put out.old at (front k part.now) }
 {
     let n = part.len();
-    put::pair(out, at, k);
-    put::pair(out, at + 2, n);
-    put::copy(out, at + 4, part);
-    put::zeros(out, at + 4 + n, PAYLOAD_SIZE - n);
+    put_pair(out, at, k);
+    put_pair(out, at + USED, n);
+    put::copy(out, at + PAYLOAD, part);
+    put::zeros(out, at + PAYLOAD + n, PAYLOAD_SIZE - n);
 }
 
 // Block k, which holds the bytes of part: its sums are taken of what stands in the output already.
@@ -27,6 +28,6 @@ pub fn put_block(out: &mut [u8], at: usize, k: usize, part: &[u8])
     put_front(out, at, k, part);
     let end = at + SUMMED;
     let s = sums(&out[at..end]);
-    put::pair(out, end, s.a as usize);
-    put::pair(out, end + 2, s.b as usize);
+    put_pair(out, end, usize::from(s.a));
+    put_pair(out, end + 2, usize::from(s.b));
 }

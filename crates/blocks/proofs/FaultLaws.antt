@@ -1,6 +1,6 @@
 -- The answer on an image is exact: what it says holds, and it is the one answer of which that is so. So the first faulty block decides, and in it the
 -- sums before the layout.
-use Rattle.std.specs.Prelude.{ℕ, zero, suc, ◌*◌, ◌%◌, ◌≡◌, refl, Bool, true, false, List, length, ltb}
+use Rattle.std.specs.Prelude.{ℕ, zero, suc, ◌*◌, ◌%◌, ◌≡◌, refl, Bool, true, false, List, length, ltb, Option, Some, None}
 use Rattle.std.proofs.Common.{arith, add-one, ap, sym, ◌∙◌, subst, below_more, ltb-true, ltb-false}
 use Rattle.block.specs.Block.{block_size, block_fault}
 use Rattle.block.specs.BlockFaults.{HasFault, BlockSays}
@@ -10,8 +10,6 @@ use Rattle.blocks.specs.Images.{LengthRight, length_right, most, block, count, i
 use Rattle.blocks.specs.Faults.{AllRight, FirstFault, FirstSays, Says}
 use Rattle.block.specs.declared.Fault.{Fault}
 use Rattle.block.specs.declared.Fault.TheVariants.{Length, Sum, Layout}
-use Rattle.block.specs.declared.Found.{Found}
-use Rattle.block.specs.declared.Found.TheVariants.{Right, Wrong}
 
 pub length_exact : (max n : ℕ) → Reflects (LengthRight max n) (length_right max n)
 unfolding length_right
@@ -25,14 +23,14 @@ unfolding first_fault
 first_says n x zero = λ j h. absurd (omega arith)
 first_says n x (suc k) = ahead (first_fault n x k) (first_says n x k)
   where
-    here : (r : Found) → AllRight n x k → BlockSays k (is_last n k) (block x k) r → FirstSays n x (suc k) r
-    here Right all right = λ j h. below_more _ k all right j (rw add-one h)
-    here (Wrong f) all bad = record { at = k; within = omega arith; before = all; faulty = bad }
+    here : (r : Option Fault) → AllRight n x k → BlockSays k (is_last n k) (block x k) r → FirstSays n x (suc k) r
+    here None all right = λ j h. below_more _ k all right j (rw add-one h)
+    here (Some f) all bad = record { at = k; within = omega arith; before = all; faulty = bad }
 
-    ahead : (r : Found) → FirstSays n x k r
-        → FirstSays n x (suc k) (elim r [ Wrong f ↦ Wrong f | Right ↦ block_fault k (is_last n k) (block x k) ])
-    ahead (Wrong f) p = record { at = p.at; within = omega (arith, p.within); before = p.before; faulty = p.faulty }
-    ahead Right p = here (block_fault k (is_last n k) (block x k)) p (block_says k (is_last n k) (block x k))
+    ahead : (r : Option Fault) → FirstSays n x k r
+        → FirstSays n x (suc k) (elim r [ Some f ↦ Some f | None ↦ block_fault k (is_last n k) (block x k) ])
+    ahead (Some f) p = record { at = p.at; within = omega (arith, p.within); before = p.before; faulty = p.faulty }
+    ahead None p = here (block_fault k (is_last n k) (block x k)) p (block_says k (is_last n k) (block x k))
 
 -- two first faults are one
 first_one : (n : ℕ) (x : List ℕ) (k : ℕ) (f g : Fault) → FirstFault n x k f → FirstFault n x k g → f ≡ g
@@ -52,14 +50,14 @@ first_one n x k f g p q = go (ltb i j) refl (ltb j i) refl
         one_fault i (is_last n i) (block x i) f g p.faulty
         (subst (λ (m : ℕ). HasFault m (is_last n m) (block x m) g) same q.faulty)
 
-first_unique : (n : ℕ) (x : List ℕ) (k : ℕ) (r s : Found) → FirstSays n x k r → FirstSays n x k s → r ≡ s
-first_unique n x k Right Right p q = refl
-first_unique n x k Right (Wrong g) p q = absurd (not_right _ _ _ g q.faulty (p q.at q.within))
-first_unique n x k (Wrong f) Right p q = absurd (not_right _ _ _ f p.faulty (q p.at p.within))
-first_unique n x k (Wrong f) (Wrong g) p q = ap Wrong (first_one n x k f g p q)
+first_unique : (n : ℕ) (x : List ℕ) (k : ℕ) (r s : Option Fault) → FirstSays n x k r → FirstSays n x k s → r ≡ s
+first_unique n x k None None p q = refl
+first_unique n x k None (Some g) p q = absurd (not_right _ _ _ g q.faulty (p q.at q.within))
+first_unique n x k (Some f) None p q = absurd (not_right _ _ _ f p.faulty (q p.at p.within))
+first_unique n x k (Some f) (Some g) p q = ap Some (first_one n x k f g p q)
 
 -- no other answer says what holds of the first blocks
-pub first_exact : (n : ℕ) (x : List ℕ) (k : ℕ) (r : Found) → FirstSays n x k r → first_fault n x k ≡ r
+pub first_exact : (n : ℕ) (x : List ℕ) (k : ℕ) (r : Option Fault) → FirstSays n x k r → first_fault n x k ≡ r
 first_exact n x k r p = first_unique n x k (first_fault n x k) r (first_says n x k) p
 
 -- The whole image --------------------------------------------------------------
@@ -69,32 +67,32 @@ pub fault_says : (max : ℕ) (x : List ℕ) → Says max x (fault max x)
 unfolding fault
 fault_says max x = go (length_exact max (length x))
   where
-    inside : LengthRight max (length x) → (r : Found) → FirstSays (count x) x (count x) r → Says max x r
-    inside l Right p = (l, p)
-    inside l (Wrong Length) p = absurd p.faulty
-    inside l (Wrong Sum) p = (l, p)
-    inside l (Wrong Layout) p = (l, p)
+    inside : LengthRight max (length x) → (r : Option Fault) → FirstSays (count x) x (count x) r → Says max x r
+    inside l None p = (l, p)
+    inside l (Some Length) p = absurd p.faulty
+    inside l (Some Sum) p = (l, p)
+    inside l (Some Layout) p = (l, p)
 
     go : {t : Bool} → Reflects (LengthRight max (length x)) t
-        → Says max x (elim t [ false ↦ Wrong Length | true ↦ first_fault (count x) x (count x) ])
+        → Says max x (elim t [ false ↦ Some Length | true ↦ first_fault (count x) x (count x) ])
     go (fails n) = n
     go (holds h) = inside h (first_fault (count x) x (count x)) (first_says (count x) x (count x))
 
 -- under a right length an answer speaks of the blocks, and else it is the length's
-of_blocks : (max : ℕ) (x : List ℕ) (r : Found) → LengthRight max (length x) → Says max x r → FirstSays (count x) x (count x) r
-of_blocks max x Right l p = p.1
-of_blocks max x (Wrong Length) l p = absurd (p l)
-of_blocks max x (Wrong Sum) l p = p.1
-of_blocks max x (Wrong Layout) l p = p.1
+of_blocks : (max : ℕ) (x : List ℕ) (r : Option Fault) → LengthRight max (length x) → Says max x r → FirstSays (count x) x (count x) r
+of_blocks max x None l p = p.1
+of_blocks max x (Some Length) l p = absurd (p l)
+of_blocks max x (Some Sum) l p = p.1
+of_blocks max x (Some Layout) l p = p.1
 
-of_length : (max : ℕ) (x : List ℕ) (r : Found) → (LengthRight max (length x) → ⊥) → Says max x r → r ≡ Wrong Length
-of_length max x Right l p = absurd (l p.0)
-of_length max x (Wrong Length) l p = refl
-of_length max x (Wrong Sum) l p = absurd (l p.0)
-of_length max x (Wrong Layout) l p = absurd (l p.0)
+of_length : (max : ℕ) (x : List ℕ) (r : Option Fault) → (LengthRight max (length x) → ⊥) → Says max x r → r ≡ Some Length
+of_length max x None l p = absurd (l p.0)
+of_length max x (Some Length) l p = refl
+of_length max x (Some Sum) l p = absurd (l p.0)
+of_length max x (Some Layout) l p = absurd (l p.0)
 
 -- and no other answer says what holds
-pub fault_exact : (max : ℕ) (x : List ℕ) (r : Found) → Says max x r → fault max x ≡ r
+pub fault_exact : (max : ℕ) (x : List ℕ) (r : Option Fault) → Says max x r → fault max x ≡ r
 fault_exact max x r p = go (length_exact max (length x))
   where
     go : {t : Bool} → Reflects (LengthRight max (length x)) t → fault max x ≡ r

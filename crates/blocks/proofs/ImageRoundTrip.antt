@@ -2,7 +2,7 @@
 -- that one image belongs to a stream.
 use Prim.Native.Nat.{ℕ, zero, suc, ◌+◌, ◌*◌, ◌≤◌}
 use native.Mathlib.Omega.{arith}
-use Rattle.std.specs.Prelude.{◌≡◌, drop}
+use Rattle.std.specs.Prelude.{◌≡◌, drop, None}
 use Rattle.std.proofs.Math.Path.{refl, ap, ap₂, sym}
 use Rattle.std.proofs.Common.{◌∙◌, subst, take-add}
 use mathlib.Core.List.{List, ◌++◌}
@@ -17,7 +17,6 @@ use Rattle.blocks.proofs.ImageLaws.{piece_length, piece_used, image_length, imag
 use Rattle.blocks.proofs.ImageLaws.{stream_pieces}
 use Rattle.blocks.specs.Faults.{AllRight, Says}
 use Rattle.blocks.proofs.FaultLaws.{fault_says, fault_exact}
-use Rattle.block.specs.declared.Found.TheVariants.{Right}
 
 module _ (s : List ℕ) (some : 1 ≤ length s) where
   image_size : length (image s) ≡ block_size * pieces (length s)
@@ -49,11 +48,11 @@ module _ (s : List ℕ) (some : 1 ≤ length s) where
       ∙ ap (λ (n : ℕ). take n s) (sym e)
 
   -- what was written is accepted wherever its blocks are allowed
-  pub image_accepted : (max : ℕ) → length s ≤ payload_size * most max → fault max (image s) ≡ Right
+  pub image_accepted : (max : ℕ) → length s ≤ payload_size * most max → fault max (image s) ≡ None
   image_accepted max h =
       let e = image_size in
       let blocks = pieces_most (most max) h in
-      fault_exact max (image s) Right (
+      fault_exact max (image s) None (
         record { whole = omega arith; from_one = omega arith; to_most = omega arith },
         subst (λ (c : ℕ). AllRight c (image s) c) (sym image_count) image_right,
       )
@@ -67,8 +66,8 @@ module _ (s : List ℕ) (some : 1 ≤ length s) where
       ap (joined (image s)) image_count ∙ image_joined n (omega arith) ∙ take_all (payload_size * n) s enough
 
 -- an accepted image is the image of its stream
-module _ (max : ℕ) (x : List ℕ) (small : Bytes x) (accepted : fault max x ≡ Right) where
-  says : Says max x Right
+module _ (max : ℕ) (x : List ℕ) (small : Bytes x) (accepted : fault max x ≡ None) where
+  says : Says max x None
   says = subst (Says max x) accepted (fault_says max x)
 
   block_small : (k : ℕ) → Bytes (block x k)
@@ -101,5 +100,5 @@ module _ (max : ℕ) (x : List ℕ) (small : Bytes x) (accepted : fault max x �
       ∙ take_all (block_size * n) x (omega arith)
 
 -- so one accepted image belongs to a stream
-pub one_image : (max : ℕ) (x y : List ℕ) → Bytes x → Bytes y → fault max x ≡ Right → fault max y ≡ Right → stream x ≡ stream y → x ≡ y
+pub one_image : (max : ℕ) (x y : List ℕ) → Bytes x → Bytes y → fault max x ≡ None → fault max y ≡ None → stream x ≡ stream y → x ≡ y
 one_image max x y bx by ax ay e = sym (stream_image max x bx ax) ∙ ap image e ∙ stream_image max y by ay

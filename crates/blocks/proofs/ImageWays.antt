@@ -3,7 +3,7 @@ use Prim.Native.Nat.{ℕ, zero, suc, ◌+◌, ◌*◌, ◌-◌, ◌%◌, ◌<◌
 use native.Mathlib.Omega.{arith}
 use Rattle.std.proofs.Math.Nat.{add-sub_cancel_left}
 use Rattle.std.proofs.Math.Numerals.{add-one}
-use Rattle.std.specs.Prelude.{◌≡◌, Bool, true, false, List, take, drop, eqb, leb}
+use Rattle.std.specs.Prelude.{◌≡◌, Bool, true, false, List, take, drop, eqb, leb, Some, None, Ok, Err}
 use Rattle.std.proofs.Math.Path.{ap, subst}
 use Rattle.std.proofs.Common.{sym, ◌∙◌, get_or-take, get_or-drop}
 use Rattle.std.proofs.Math.ListN.{length, length-append}
@@ -21,8 +21,7 @@ use Rattle.blocks.specs.Faults.{AllRight, Says}
 use Rattle.blocks.proofs.FaultLaws.{length_exact, fault_says}
 use Rattle.block.specs.declared.Fault.{Fault}
 use Rattle.block.specs.declared.Fault.TheVariants.{Length}
-use Rattle.block.specs.declared.Found.TheVariants.{Right, Wrong}
-use Rattle.blocks.specs.declared.Read.TheVariants.{Stream, Refused, Short as ShortBuffer}
+use Rattle.blocks.specs.declared.ReadError.TheVariants.{Faulty, Short as ShortBuffer}
 
 -- The length of an image ---------------------------------------------------------
 
@@ -40,7 +39,7 @@ module _ (max n : ℕ) where
   some_block m e w h = rw (eq-eqb (n % 512) 0 w, le-leb 512 n h, e)
 
 module _ (max : ℕ) (x : List ℕ) where
-  pub length_wrong : (t : Bool) → t ≡ length_right max (length x) → t ≡ false → Wrong Length ≡ fault max x
+  pub length_wrong : (t : Bool) → t ≡ length_right max (length x) → t ≡ false → Some Length ≡ fault max x
   unfolding fault
   length_wrong t e f = rw (sym e ∙ f, fault)
 
@@ -59,22 +58,22 @@ unfolding block
 block_at x k = rw add-sub_cancel_left
 
 module _ (n : ℕ) (x : List ℕ) where
-  pub first_more : (k : ℕ) → first_fault n x k ≡ Right → block_fault k (eqb (k + 1) n) (block x k) ≡ Right → first_fault n x (k + 1) ≡ Right
+  pub first_more : (k : ℕ) → first_fault n x k ≡ None → block_fault k (eqb (k + 1) n) (block x k) ≡ None → first_fault n x (k + 1) ≡ None
   unfolding first_fault is_last
   first_more k before here = rw (add-one, first_fault, before) here
 
-  first_stays : (f : Fault) (d k : ℕ) → first_fault n x k ≡ Wrong f → first_fault n x (k + d) ≡ Wrong f
+  first_stays : (f : Fault) (d k : ℕ) → first_fault n x k ≡ Some f → first_fault n x (k + d) ≡ Some f
   unfolding first_fault
   first_stays f zero k e = let same : k + 0 ≡ k = omega arith in rw same e
   first_stays f (suc d) k e = let same : k + suc d ≡ suc (k + d) = omega arith in rw (same, first_fault, first_stays f d k e)
 
-  pub first_stop : (k : ℕ) (f : Fault) → k < n → first_fault n x k ≡ Right → block_fault k (eqb (k + 1) n) (block x k) ≡ Wrong f
-      → first_fault n x n ≡ Wrong f
+  pub first_stop : (k : ℕ) (f : Fault) → k < n → first_fault n x k ≡ None → block_fault k (eqb (k + 1) n) (block x k) ≡ Some f
+      → first_fault n x n ≡ Some f
   unfolding first_fault is_last
   first_stop k f h before here =
-      let now : first_fault n x (suc k) ≡ Wrong f = rw (first_fault, before) here in
+      let now : first_fault n x (suc k) ≡ Some f = rw (first_fault, before) here in
       let same : suc k + (n - suc k) ≡ n = omega arith in
-      subst (λ (m : ℕ). first_fault n x m ≡ Wrong f) same (first_stays f (n - suc k) (suc k) now)
+      subst (λ (m : ℕ). first_fault n x m ≡ Some f) same (first_stays f (n - suc k) (suc k) now)
 
 -- The stream -----------------------------------------------------------------------
 
@@ -125,24 +124,24 @@ module _ (n : ℕ) (x : List ℕ) (whole : length x ≡ block_size * n) (right :
 
 module _ (max : ℕ) (x : List ℕ) where
   -- an accepted image has whole blocks, one at least, and all are right
-  pub accepted : fault max x ≡ Right → (length x ≡ block_size * count x) × (1 ≤ count x) × AllRight (count x) x (count x)
+  pub accepted : fault max x ≡ None → (length x ≡ block_size * count x) × (1 ≤ count x) × AllRight (count x) x (count x)
   accepted e =
-      let says : Says max x Right = subst (Says max x) e (fault_says max x) in
+      let says : Says max x None = subst (Says max x) e (fault_says max x) in
       (count_length max x says.0, omega (arith, says.0.from_one), says.1)
 
   module _ (room : ℕ) where
-    pub read_refused : (f : Fault) → fault max x ≡ Wrong f → Refused f ≡ read max x room
+    pub read_refused : (f : Fault) → fault max x ≡ Some f → Err (Faulty f) ≡ read max x room
     unfolding read read_of
     read_refused f e = rw e
 
-    pub read_short : (n : ℕ) → fault max x ≡ Right → n ≡ length (stream x) → room < n → ShortBuffer ≡ read max x room
+    pub read_short : (n : ℕ) → fault max x ≡ None → n ≡ length (stream x) → room < n → Err ShortBuffer ≡ read max x room
     unfolding read read_of
     read_short n e en h = rw (e, read_of, ← en, lt-ltb room n h)
 
-    pub read_done : (n : ℕ) → fault max x ≡ Right → n ≡ length (stream x) → n ≤ room → Stream n ≡ read max x room
+    pub read_done : (n : ℕ) → fault max x ≡ None → n ≡ length (stream x) → n ≤ room → Ok n ≡ read max x room
     unfolding read read_of
-    read_done n e en h = rw (e, read_of, ← en, le-ltb room n h) (ap Stream en)
+    read_done n e en h = rw (e, read_of, ← en, le-ltb room n h) (ap Ok en)
 
-pub read_after : (x d : List ℕ) (n : ℕ) → n ≡ length (stream x) → put d 0 (stream x) ≡ read_into (Stream n) (stream x) d
+pub read_after : (x d : List ℕ) (n : ℕ) → n ≡ length (stream x) → put d 0 (stream x) ≡ read_into (Ok n) (stream x) d
 unfolding read_into
 read_after x d n e = put_front d (stream x) ∙ rw e

@@ -1,5 +1,5 @@
 -- One law for each way through the functions that write an image (01, 'Blocks').
-use Rattle.std.specs.Prelude.{ℕ, ◌+◌, ◌*◌, ◌-◌, ◌<◌, ◌≤◌, ◌≡◌, Bool, true, false, List, length, take, drop, leb}
+use Rattle.std.specs.Prelude.{ℕ, ◌+◌, ◌*◌, ◌-◌, ◌<◌, ◌≤◌, ◌≡◌, Bool, true, false, List, length, take, drop, leb, Ok, Err}
 use Rattle.std.proofs.Common.{arith, add-one, sym, ◌∙◌, length-drop, take_all}
 use Rattle.std.proofs.Math.Nat.{add-sub_cancel_left}
 use borrow.Author.Tests.{le-leb, lt-leb, lt-ltb, le-ltb}
@@ -11,7 +11,7 @@ use Rattle.block.proofs.Laws.BlockRoundTrip.{block_length}
 use Rattle.blocks.specs.Images.{most, piece, pieces, image_of, image, stream_right, write, written_into}
 use Rattle.blocks.proofs.ImageLaws.{image_length, piece_fits}
 use Rattle.blocks.specs.Answers.{StreamRight}
-use Rattle.blocks.specs.declared.Written.TheVariants.{Blocks, Length as WrongLength, Short as ShortOutput}
+use Rattle.blocks.specs.declared.WriteError.TheVariants.{Length as WrongLength, Short as ShortOutput}
 
 -- Pieces --------------------------------------------------------------------------
 
@@ -53,18 +53,18 @@ module _ (max n : ℕ) where
   right_stream t e f = (reflects_iff (stream_exact max n)).0 (sym e ∙ f)
 
   module _ (room : ℕ) (t : Bool) (e : t ≡ stream_right max n) where
-    pub write_refused : t ≡ false → WrongLength ≡ write max n room
+    pub write_refused : t ≡ false → Err WrongLength ≡ write max n room
     unfolding write
     write_refused f = rw (sym e ∙ f, write)
 
-    pub write_short : t ≡ true → room < 512 * pieces n → ShortOutput ≡ write max n room
+    pub write_short : t ≡ true → room < 512 * pieces n → Err ShortOutput ≡ write max n room
     unfolding write
     write_short f h = rw (sym e ∙ f, write, lt-ltb room (512 * pieces n) h)
 
-    pub write_done : t ≡ true → 512 * pieces n ≤ room → Blocks (pieces n) ≡ write max n room
+    pub write_done : t ≡ true → 512 * pieces n ≤ room → Ok (pieces n) ≡ write max n room
     unfolding write
     write_done f h = rw (sym e ∙ f, write, le-ltb room (512 * pieces n) h)
 
-pub write_after : (s d : List ℕ) → put d 0 (image s) ≡ written_into (Blocks (pieces (length s))) s d
+pub write_after : (s d : List ℕ) → put d 0 (image s) ≡ written_into (Ok (pieces (length s))) s d
 unfolding written_into image
 write_after s d = put_front d (image_of s (pieces (length s))) ∙ rw (image_length s (pieces (length s)))

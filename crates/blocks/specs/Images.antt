@@ -6,14 +6,11 @@ use Rattle.block.specs.Sums.{wrap}
 use Rattle.block.specs.Block.{block_size, payload_size, block_fault, used_part, block_of}
 use Rattle.block.specs.declared.Fault.{Fault}
 use Rattle.block.specs.declared.Fault.TheVariants.{Length, Sum, Layout}
-use Rattle.block.specs.declared.Found.{Found}
-use Rattle.block.specs.declared.Found.TheVariants.{Right, Wrong}
-use Rattle.blocks.specs.declared.Read.{Read}
-use Rattle.blocks.specs.declared.Read.TheVariants.{Stream, Refused, Short as ShortBuffer}
-use Rattle.blocks.specs.declared.Opened.{Opened}
-use Rattle.blocks.specs.declared.Opened.TheVariants.{Stream as Open, Refused as Shut}
-use Rattle.blocks.specs.declared.Written.{Written}
-use Rattle.blocks.specs.declared.Written.TheVariants.{Blocks, Length as WrongLength, Short as ShortOutput}
+use Rattle.std.specs.Prelude.{Option, Some, None, Result, Ok, Err}
+use Rattle.blocks.specs.declared.ReadError.{ReadError}
+use Rattle.blocks.specs.declared.ReadError.TheVariants.{Faulty, Short as ShortBuffer}
+use Rattle.blocks.specs.declared.WriteError.{WriteError}
+use Rattle.blocks.specs.declared.WriteError.TheVariants.{Length as WrongLength, Short as ShortOutput}
 
 -- how many blocks an image may have where max are allowed: an index has two bytes, so 65,536 at most
 abbrev pub most : ℕ → ℕ
@@ -42,13 +39,13 @@ unfoldable pub is_last : ℕ → ℕ → Bool
 is_last n k = eqb (k + 1) n
 
 -- the first fault of the first k blocks of an image of n: blocks in order
-unfoldable pub first_fault : ℕ → List ℕ → ℕ → Found
-first_fault n x zero = Right
-first_fault n x (suc k) = elim (first_fault n x k) [ Wrong f ↦ Wrong f | Right ↦ block_fault k (is_last n k) (block x k) ]
+unfoldable pub first_fault : ℕ → List ℕ → ℕ → Option Fault
+first_fault n x zero = None
+first_fault n x (suc k) = elim (first_fault n x k) [ Some f ↦ Some f | None ↦ block_fault k (is_last n k) (block x k) ]
 
 -- what is wrong with an image where max blocks are allowed: its length before its blocks
-unfoldable pub fault : ℕ → List ℕ → Found
-fault max x = elim (length_right max (length x)) [ false ↦ Wrong Length | true ↦ first_fault (count x) x (count x) ]
+unfoldable pub fault : ℕ → List ℕ → Option Fault
+fault max x = elim (length_right max (length x)) [ false ↦ Some Length | true ↦ first_fault (count x) x (count x) ]
 
 -- the used payloads of the first k blocks, joined; those of all are the stream
 unfoldable pub joined : List ℕ → ℕ → List ℕ
@@ -59,32 +56,32 @@ unfoldable pub stream : List ℕ → List ℕ
 stream x = joined x (count x)
 
 -- what reading an image into a buffer of that many bytes answers: a fault before a buffer that is too short
-unfoldable pub read_of : Found → ℕ → ℕ → Read
-read_of (Wrong f) n room = Refused f
-read_of Right n room = elim (ltb room n) [ true ↦ ShortBuffer | false ↦ Stream n ]
+unfoldable pub read_of : Option Fault → ℕ → ℕ → Result ℕ ReadError
+read_of (Some f) n room = Err (Faulty f)
+read_of None n room = elim (ltb room n) [ true ↦ Err ShortBuffer | false ↦ Ok n ]
 
-unfoldable pub read : ℕ → List ℕ → ℕ → Read
+unfoldable pub read : ℕ → List ℕ → ℕ → Result ℕ ReadError
 read max x room = read_of (fault max x) (length (stream x)) room
 
 -- the buffer after it: the stream in front where the answer is one, its other bytes untouched
-unfoldable pub read_into : Read → List ℕ → List ℕ → List ℕ
-read_into (Stream n) s buffer = s ++ drop n buffer
-read_into (Refused f) s buffer = buffer
-read_into ShortBuffer s buffer = buffer
+unfoldable pub read_into : Result ℕ ReadError → List ℕ → List ℕ → List ℕ
+read_into (Ok n) s buffer = s ++ drop n buffer
+read_into (Err (Faulty f)) s buffer = buffer
+read_into (Err ShortBuffer) s buffer = buffer
 
--- what opening an image answers, where the buffer has room for the payloads of as many blocks as are allowed; the buffer after it; the fault of a
--- refusal, and Length where there is none
-unfoldable pub opened : Found → ℕ → Opened
-opened (Wrong f) n = Shut f
-opened Right n = Open n
+-- what opening an image answers, where the buffer has room for the payloads of as many blocks as are allowed; the buffer after it
+unfoldable pub opened : Option Fault → ℕ → Result ℕ Fault
+opened (Some f) n = Err f
+opened None n = Ok n
 
-unfoldable pub opened_into : Opened → List ℕ → List ℕ → List ℕ
-opened_into (Open n) s buffer = s ++ drop n buffer
-opened_into (Shut f) s buffer = buffer
+unfoldable pub opened_into : Result ℕ Fault → List ℕ → List ℕ → List ℕ
+opened_into (Ok n) s buffer = s ++ drop n buffer
+opened_into (Err f) s buffer = buffer
 
-abbrev pub fault_of : Opened → Fault
-fault_of (Shut f) = f
-fault_of (Open n) = Length
+-- the fault of a refusal, and Length where there is none
+abbrev pub fault_of : Result ℕ Fault → Fault
+fault_of (Err f) = f
+fault_of (Ok n) = Length
 
 -- Writing ---------------------------------------------------------------------
 
@@ -108,18 +105,18 @@ unfoldable pub stream_right : ℕ → ℕ → Bool
 stream_right max n = leb 1 n && leb n (payload_size * most max)
 
 -- what writing a stream of n bytes into an output of that many bytes answers
-unfoldable pub write : ℕ → ℕ → ℕ → Written
+unfoldable pub write : ℕ → ℕ → ℕ → Result ℕ WriteError
 write max n room =
     elim (stream_right max n) [
-      | false ↦ WrongLength
-      | true ↦ elim (ltb room (block_size * pieces n)) [ true ↦ ShortOutput | false ↦ Blocks (pieces n) ]
+      | false ↦ Err WrongLength
+      | true ↦ elim (ltb room (block_size * pieces n)) [ true ↦ Err ShortOutput | false ↦ Ok (pieces n) ]
     ]
 
 -- the output after it: the image in front where the answer is a number of blocks, its other bytes untouched
-unfoldable pub written_into : Written → List ℕ → List ℕ → List ℕ
-written_into (Blocks n) s out = image s ++ drop (block_size * n) out
-written_into WrongLength s out = out
-written_into ShortOutput s out = out
+unfoldable pub written_into : Result ℕ WriteError → List ℕ → List ℕ → List ℕ
+written_into (Ok n) s out = image s ++ drop (block_size * n) out
+written_into (Err WrongLength) s out = out
+written_into (Err ShortOutput) s out = out
 
 -- 01's numbers of a program image's faults, and of a table image's -------------------
 

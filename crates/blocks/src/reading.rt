@@ -5,43 +5,38 @@ ghost use Rattle.blocks.specs.Images.{most, length_right, first_fault, joined};
 ghost use Rattle.blocks.specs.Faults.{AllRight};
 
 use crate::{BLOCK_SIZE, PAYLOAD_SIZE};
-use block::Found;
+use block::Fault;
+
+// How many indices two bytes hold.
+const INDICES: usize = 65536;
 
 // How many blocks an image may have: as many as are allowed, and 65,536 at most, since an index has two bytes.
 pub(crate) fn most(max: usize) -> usize
     ensures { (result ≡ most max) × (result ≤ 65536) }
 {
-    if max < 65536 { max } else { 65536 }
+    max.min(INDICES)
 }
 
 pub(crate) fn length_right(n: usize, max: usize) -> bool
     ensures { result ≡ length_right max n }
 {
-    if n % BLOCK_SIZE != 0 {
-        return false;
-    }
-    if n < BLOCK_SIZE {
-        return false;
-    }
-    n <= BLOCK_SIZE * most(max)
+    n % BLOCK_SIZE == 0 && BLOCK_SIZE <= n && n <= BLOCK_SIZE * most(max)
 }
 
 // The first fault of an image of n blocks.
-pub(crate) fn first_fault(image: &[u8], n: usize) -> Found
+pub(crate) fn first_fault(image: &[u8], n: usize) -> Option<Fault>
     requires { length image.now ≡ 512 * n }
     ensures { result ≡ first_fault n image.now n }
 {
-    let mut k = 0;
-    while k < n {
+    for k in 0..n {
         let start = BLOCK_SIZE * k;
         let end = start + BLOCK_SIZE;
         let last = k + 1 == n;
-        if let Found::Wrong(f) = block::block_fault(&image[start..end], k, last) {
-            return Found::Wrong(f);
+        if let Some(fault) = block::block_fault(&image[start..end], k, last) {
+            return Some(fault);
         }
-        k += 1;
     }
-    Found::Right
+    None
 }
 
 // The length of the stream of n right blocks: every block but the last is full.
@@ -51,7 +46,7 @@ pub(crate) fn stream_length(image: &[u8], n: usize) -> usize
     ensures { result ≡ length (joined image.now n) }
 {
     let k = n - 1;
-    PAYLOAD_SIZE * k + little_endian::pair_at(image, BLOCK_SIZE * k + 2)
+    PAYLOAD_SIZE * k + little_endian::pair_at(image, BLOCK_SIZE * k + block::USED)
 }
 
 // The used payloads of n right blocks, joined from the start of the buffer.
@@ -61,13 +56,11 @@ pub(crate) fn join(image: &[u8], n: usize, buffer: &mut [u8])
     requires n_in_bounds { length (joined image.now n) ≤ length buffer.old }
     ensures { buffer.new ≡ put buffer.old 0 (joined image.now n) }
 {
-    let mut k = 0;
-    while k < n {
+    for k in 0..n {
         let start = BLOCK_SIZE * k;
         let end = start + BLOCK_SIZE;
         let block = &image[start..end];
-        let used = little_endian::pair_at(block, 2);
+        let used = little_endian::pair_at(block, block::USED);
         block::put::copy(buffer, PAYLOAD_SIZE * k, block::payload(block, used));
-        k += 1;
     }
 }

@@ -1,4 +1,4 @@
-// The blocks that hold a stream, written one behind the other (01, 'Blocks').
+// The blocks that hold a stream, written one after the other (01, 'Blocks').
 ghost use Rattle.std.specs.Prelude.{◌≡◌, ◌+◌, ◌*◌, ◌≤◌, length};
 ghost use Rattle.block.specs.Put.{put};
 ghost use Rattle.blocks.specs.Images.{stream_right, piece, image_of};
@@ -8,10 +8,7 @@ use crate::{BLOCK_SIZE, PAYLOAD_SIZE, reading};
 pub(crate) fn stream_right(n: usize, max: usize) -> bool
     ensures { result ≡ stream_right max n }
 {
-    if n < 1 {
-        return false;
-    }
-    n <= PAYLOAD_SIZE * reading::most(max)
+    1 <= n && n <= PAYLOAD_SIZE * reading::most(max)
 }
 
 // Piece k of a stream, as that part of the caller's slice.
@@ -33,9 +30,7 @@ pub(crate) fn put_blocks(stream: &[u8], n: usize, out: &mut [u8])
     requires n_in_bounds_2 { 504 * n ≤ length stream.now + 503 }
     ensures { out.new ≡ put out.old 0 (image_of stream.now n) }
 {
-    let mut k = 0;
-    while k < n {
+    for k in 0..n {
         block::writing::put_block(out, BLOCK_SIZE * k, k, piece(stream, k));
-        k += 1;
     }
 }

@@ -6,10 +6,11 @@ ghost use Rattle.verdict.specs.Verdict.{refusal, check_verdict, check_list};
 ghost use Rattle.checker.specs.Answer.{answer, approved};
 
 use directory::rows::ROWS;
-use load::{Load, Loaded};
+use load::Loaded;
+use types::refusal::Refusal;
 
 // 01's number of a lent list with too few places.
-pub const SHORT_LIST: u8 = types::number::NO_ROOM;
+pub const SHORT_LIST: u8 = Refusal::NoRoom as u8;
 
 // What checking answers: the number, and of an accepted program how many structs, steps and commands it has, and its depth.
 #[derive(Clone, Copy)]
@@ -56,8 +57,9 @@ pub fn check(image: &[u8], list: &mut [u64]) -> Verdict
     let mut types = [0u8; types::MAX_STRUCTS * types::MAX_PARAMS];
     let mut rows = [0u16; ROWS];
     let r = load::program(image, &mut stream, &mut counts, &mut types, &mut rows);
-    let Load::Program(p) = r else {
-        return refused(load::refusal(r));
+    let p = match r {
+        Ok(p) => p,
+        Err(refusal) => return refused(u8::from(refusal)),
     };
     if list.len() < types::MAX_COMMANDS {
         return refused(SHORT_LIST);

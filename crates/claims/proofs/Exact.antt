@@ -6,11 +6,8 @@ use Rattle.std.proofs.Math.ListN.{get_elem?}
 use Rattle.types.specs.Limits.{max_instances, max_commands, expr_levels}
 use Rattle.types.specs.Reflects.{Reflects}
 use Rattle.types.specs.Types.{Ty}
-use Rattle.block.specs.declared.Found.TheVariants.{Right}
 use Rattle.block.specs.Block.{block_size, payload_size}
 use Rattle.block.specs.Sums.{wrap, Bytes as ByteList}
-use Rattle.blocks.specs.declared.Read.TheVariants.{Stream}
-use Rattle.blocks.specs.declared.Written.TheVariants.{Blocks}
 use Rattle.blocks.specs.Images.{most, fault, stream, image, pieces, read as read_image, read_into, write}
 use Rattle.blocks.specs.Answers.{StreamRight, WriteSays}
 use Rattle.blocks.proofs.AnswerLaws.{write_says, read_fits, write_fits, read_written_into}
@@ -94,6 +91,7 @@ use Rattle.table_stream.specs.TableAgain.{table_again}
 use Rattle.text.specs.Listing.{decimal, int_text}
 use Rattle.text.specs.Decimals.{InDecimal, integer}
 use Rattle.text.specs.DecimalLaws.{decimal_right, int_right}
+use Rattle.std.specs.Prelude.{None, Ok}
 
 -- Types and values ------------------------------------------------------------------------
 
@@ -123,11 +121,11 @@ pub write_answered : (max n room : ℕ) → WriteSays max n room (write max n ro
 write_answered = write_says
 
 -- a buffer as long as the payloads and an output as long as the blocks that are allowed are never too short
-pub read_room : (max : ℕ) (x : List ℕ) (room : ℕ) → fault max x ≡ Right → payload_size * most max ≤ room
-    → read_image max x room ≡ Stream (length (stream x))
+pub read_room : (max : ℕ) (x : List ℕ) (room : ℕ) → fault max x ≡ None → payload_size * most max ≤ room
+    → read_image max x room ≡ Ok (length (stream x))
 read_room = read_fits
 
-pub write_room : (max n room : ℕ) → StreamRight max n → block_size * most max ≤ room → write max n room ≡ Blocks (pieces n)
+pub write_room : (max n room : ℕ) → StreamRight max n → block_size * most max ≤ room → write max n room ≡ Ok (pieces n)
 write_room = write_fits
 
 -- its bytes are bytes,
@@ -135,7 +133,7 @@ pub image_bytes_small : (s : List ℕ) → ByteList s → length s ≤ payload_s
 image_bytes_small = image_bytes
 
 -- and a stream has one accepted image
-pub image_one : (max : ℕ) (x y : List ℕ) → ByteList x → ByteList y → fault max x ≡ Right → fault max y ≡ Right → stream x ≡ stream y → x ≡ y
+pub image_one : (max : ℕ) (x y : List ℕ) → ByteList x → ByteList y → fault max x ≡ None → fault max y ≡ None → stream x ≡ stream y → x ≡ y
 image_one = one_image
 
 -- Programs --------------------------------------------------------------------------------

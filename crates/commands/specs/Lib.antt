@@ -3,6 +3,7 @@ pub mod Context
 pub mod Names
 pub mod Typing
 pub mod CommandKinds
+pub mod KindCodes
 pub mod Coding
 pub mod Decoding
 pub mod Depth

@@ -4,9 +4,8 @@ ghost use Rattle.emit.specs.Written.{Ready, Wrote};
 ghost use Rattle.compile.specs.Laid.{LaidProgram};
 ghost use Rattle.compile.specs.Codes.{item_codes, items_codes, schedule_codes, item_at, items_at, schedule_at};
 
-use crate::store;
 use emit::Put;
-use little_endian::index;
+use program::form;
 
 // The codes of a schedule are at most two for each item, and the end.
 pub const CODES: usize = 2 * types::SCHEDULE_ITEMS + 1;
@@ -16,12 +15,8 @@ fn add(codes: &mut [usize], p: Put, code: usize) -> Put
     requires { p.at < length codes.old }
     ensures { (result.next ≡ p.next) × (result.at ≡ p.at + 1) × (codes.new ≡ set codes.old p.at code) }
 {
-    let k = p.at;
-    store(codes, k, code);
-    Put {
-        next: p.next,
-        at: k + 1,
-    }
+    codes[p.at] = code;
+    Put { at: p.at + 1, ..p }
 }
 
 // The codes of the item at a place, from k on: a step by its name, on one struct by that struct's names; a Fix around its items.
@@ -30,33 +25,30 @@ fn item(s: &[u8], at: usize, depth: usize, codes: &mut [usize], k: usize) -> Put
     requires { Ready (item_codes k) (item_at s.now depth at) codes.old k }
     ensures { Wrote (item_codes k) (item_at s.now depth at) codes.old k result codes.new }
 {
-    let sort = s[at];
-    if sort == 1 {
-        let n = index(s[at + 1]);
-        return add(
-            codes,
-            Put {
+    match s[at] {
+        form::CALL => {
+            let n = usize::from(s[at + 1]);
+            let p = Put {
                 next: at + 2,
                 at: k,
-            },
-            n,
-        );
-    }
-    if sort == 2 {
-        let j = index(s[at + 1]);
-        let n = index(s[at + 2]);
-        return add(
-            codes,
-            Put {
+            };
+            add(codes, p, n)
+        }
+        form::CALL_IN => {
+            let j = usize::from(s[at + 1]);
+            let n = usize::from(s[at + 2]);
+            let p = Put {
                 next: at + 3,
                 at: k,
-            },
-            types::STEP_NAMES * (j + 1) + n,
-        );
+            };
+            add(codes, p, types::STEP_NAMES * (j + 1) + n)
+        }
+        _ => {
+            codes[k] = layout::codes::FIX;
+            let p = items(s, at + 1, depth - 1, codes, k + 1);
+            add(codes, p, layout::codes::ROUND + k + 1)
+        }
     }
-    store(codes, k, layout::codes::FIX);
-    let p = items(s, at + 1, depth - 1, codes, k + 1);
-    add(codes, p, layout::codes::ROUND + k + 1)
 }
 
 // The items of the schedule or of a Fix: a count and that many items.
@@ -65,16 +57,12 @@ fn items(s: &[u8], at: usize, depth: usize, codes: &mut [usize], k: usize) -> Pu
     requires { Ready (items_codes k) (items_at s.now depth at) codes.old k }
     ensures { Wrote (items_codes k) (items_at s.now depth at) codes.old k result codes.new }
 {
-    let mut left = s[at];
     let mut p = Put {
         next: at + 1,
         at: k,
     };
-    while left != 0 {
-        let next = p.next;
-        let i = p.at;
-        p = item(s, next, depth, codes, i);
-        left -= 1;
+    for _done in 0..s[at] {
+        p = item(s, p.next, depth, codes, p.at);
     }
     p
 }

@@ -5,15 +5,7 @@
 pub mod items;
 pub mod spans;
 
-ghost use Rattle.std.specs.Prelude.{◌≡◌, ◌<◌, length, set};
 ghost use Rattle.compile.specs.Prepared.{Preparable, PreparedProgram};
-
-pub(crate) fn store(out: &mut [usize], k: usize, v: usize)
-    requires { k < length out.old }
-    ensures { out.new ≡ set out.old k v }
-{
-    out[k] = v;
-}
 
 // A program of so many structs, whose schedule begins at a place and whose steps have n rows: a loop over the rows, and a walk over the schedule.
 // The span of a step that its struct has not is free, save that its end lies before its beginning.

@@ -7,26 +7,18 @@ ghost use Rattle.memory.specs.Plan.{span_of};
 ghost use Rattle.compile.specs.Spans.{RowHeld, span_places, paired, cleared, noted, spans_of};
 
 use directory::Row;
-use directory::rows::{place, row_at};
+use directory::rows::row_at;
 
 // Two numbers for each name of each struct: the place of a step's first command, and the place behind its last one.
 pub const SPANS: usize = 2 * types::STEP_NAMES * types::MAX_STRUCTS;
-
-// A number.
-fn put(spans: &mut [u16], i: usize, v: u16)
-    requires { i < length spans.old }
-    ensures { spans.new ≡ set spans.old i v }
-{
-    spans[i] = v;
-}
 
 // A pair of numbers.
 fn pair(spans: &mut [u16], i: usize, from: u16, to: u16)
     requires { i + 1 < length spans.old }
     ensures { spans.new ≡ paired i from to spans.old }
 {
-    put(spans, i, from);
-    put(spans, i + 1, to);
+    spans[i] = from;
+    spans[i + 1] = to;
 }
 
 // No step of the first n structs is there: of each pair the first number is the greater.
@@ -34,12 +26,8 @@ fn clear(spans: &mut [u16], n: usize)
     requires { (length spans.old ≡ span_places) × (n ≤ max_structs) }
     ensures { spans.new ≡ cleared (step_names * n) 0 spans.old }
 {
-    let mut i = 0;
-    let mut left = types::STEP_NAMES * n;
-    while left != 0 {
-        pair(spans, i, 1, 0);
-        i += 2;
-        left -= 1;
+    for i in 0..types::STEP_NAMES * n {
+        pair(spans, 2 * i, 1, 0);
     }
 }
 
@@ -48,7 +36,7 @@ fn note_row(spans: &mut [u16], r: Row)
     requires { (RowHeld r) × (length spans.old ≡ span_places) }
     ensures { spans.new ≡ paired (span_of r.structure r.name) r.start (r.start + r.size) spans.old }
 {
-    let at = 2 * (types::STEP_NAMES * place(r.structure) + place(r.name));
+    let at = 2 * (types::STEP_NAMES * usize::from(r.structure) + usize::from(r.name));
     pair(spans, at, r.start, r.start + r.size);
 }
 
@@ -57,9 +45,7 @@ fn note(rows: &[u16], n: usize, spans: &mut [u16])
     requires { (row_places * n ≤ length rows.now) × (All RowHeld (rows_from rows.now 0 n)) × (length spans.old ≡ span_places) }
     ensures { spans.new ≡ noted (rows_from rows.now 0 n) spans.old }
 {
-    let mut i = n;
-    while i != 0 {
-        i -= 1;
+    for i in (0..n).rev() {
         note_row(spans, row_at(rows, i));
     }
 }

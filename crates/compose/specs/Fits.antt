@@ -1,15 +1,13 @@
 -- The loop over the places of a text from its end: a role's byte in the place where its token begins, a literal by the number that stands there; and whether
 -- what is written keeps to a stream's counts and to so many bytes.
-use Rattle.std.specs.Prelude.{ℕ, suc, Bool, true, false, ◌&&◌, List, [], ◌∷◌, length, eqb, leb}
+use Rattle.std.specs.Prelude.{ℕ, suc, Bool, true, false, ◌&&◌, List, [], ◌∷◌, length, eqb, leb, Option, Some, None}
 use Rattle.resolve.specs.Digits.{nat_at, int_at}
-use Rattle.resolve.specs.declared.Word.{Word}
-use Rattle.resolve.specs.declared.Word.TheVariants.{Of, Outside}
 use Rattle.compose.specs.Writing.{Writing, Writing.writing, put}
 use Rattle.tokens.specs.KindNames.{int_kind, nat_kind}
 
-unfoldable pub word_value : Word → ℕ
-word_value (Of n) = n
-word_value Outside = 0
+unfoldable pub word_value : Option ℕ → ℕ
+word_value (Some n) = n
+word_value None = 0
 
 -- the number of a literal at a place, by its role's byte; 0 of any other
 unfoldable pub value_at : List ℕ → ℕ → ℕ → ℕ

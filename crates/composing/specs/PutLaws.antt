@@ -1,9 +1,8 @@
 -- One role in memory: what each of its marks picks, and the three in a row; the number of a literal.
-use Rattle.std.specs.Prelude.{ℕ, zero, suc, ◌+◌, ◌≤◌, ◌<◌, ◌≡◌, refl, Bool, true, ◌&&◌, List, length, get_or}
+use Rattle.std.specs.Prelude.{ℕ, zero, suc, ◌+◌, ◌≤◌, ◌<◌, ◌≡◌, refl, Bool, true, ◌&&◌, List, length, get_or, Option, Some, None}
+use Rattle.std.specs.Option.{unwrap_or}
 use Rattle.std.proofs.Common.{arith, sym, ap, ◌∙◌}
 use Rattle.std.proofs.Math.ListN.{get_or-eq_default}
-use Rattle.resolve.specs.declared.Word.{Word}
-use Rattle.resolve.specs.declared.Word.TheVariants.{Of, Outside}
 use Rattle.compose.specs.Writing.{op_shift, Writing, formed, behinds, pourings, stackings, behind_marks, forms, stack_marks, pour_marks, spelt, put}
 use Rattle.compose.specs.Fits.{kept, word_value, within}
 use Rattle.compose.proofs.Laws.FitsLaws.{formed_alike, stacked_alike, kept_within, spelt_within}
@@ -68,13 +67,18 @@ put_none room c v x l =
 
 -- Literals and room -----------------------------------------------------------------------------------
 
-pub word_is : (w : Word) (n : ℕ) → w ≡ Of n → n ≡ word_value w
+pub word_is : (w : Option ℕ) (n : ℕ) → w ≡ Some n → n ≡ word_value w
 unfolding word_value
 word_is w n e = rw e refl
 
-pub word_outside : (w : Word) → w ≡ Outside → 0 ≡ word_value w
+pub word_outside : (w : Option ℕ) → w ≡ None → 0 ≡ word_value w
 unfolding word_value
 word_outside w e = rw e refl
+
+pub word_or : (w : Option ℕ) → unwrap_or w 0 ≡ word_value w
+unfolding word_value
+word_or (Some n) = refl
+word_or None = refl
 
 pub both_on : (f g : Bool) → f ≡ true → g ≡ (f && g)
 both_on f g e = rw e refl

@@ -13,13 +13,7 @@ const MAX_LATER: usize = 3;
 pub(crate) fn spoilt(p: Pen) -> Pen
     ensures { (result.place ≡ p.place) × (result.height ≡ p.height) × (result.left ≡ p.left) × (result.later ≡ p.later) × (result.fits ≡ false) }
 {
-    Pen {
-        place: p.place,
-        height: p.height,
-        left: p.left,
-        later: p.later,
-        fits: false,
-    }
+    Pen { fits: false, ..p }
 }
 
 pub(crate) fn wrote(out: &mut [u8], p: Pen, b: u8) -> Pen
@@ -27,15 +21,9 @@ pub(crate) fn wrote(out: &mut [u8], p: Pen, b: u8) -> Pen
     ensures by_index { (w n : List ℕ) → stands out.new w n result ≡ wrote b (stands out.old w n p) }
     ensures place_value { (result.place + 1 ≡ p.place) × Near 1 0 0 p result }
 {
-    let at = p.place - 1;
-    out[at] = b;
-    Pen {
-        place: at,
-        height: p.height,
-        left: p.left,
-        later: p.later,
-        fits: p.fits,
-    }
+    let place = p.place - 1;
+    out[place] = b;
+    Pen { place, ..p }
 }
 
 // The byte of a form, where there is one.
@@ -44,10 +32,7 @@ pub(crate) fn formed(out: &mut [u8], p: Pen, b: u8) -> Pen
     ensures by_index { (w n : List ℕ) → stands out.new w n result ≡ formed b (stands out.old w n p) }
     ensures near { Near 1 0 0 p result }
 {
-    if b == 0 {
-        return p;
-    }
-    wrote(out, p, b)
+    if b == 0 { p } else { wrote(out, p, b) }
 }
 
 // The last of the numbers that are left.
@@ -60,16 +45,10 @@ fn numbered(out: &mut [u8], numbers: &[u8], p: Pen) -> Pen
     if n == 0 {
         return spoilt(p);
     }
-    let k = n - 1;
-    let at = p.place - 1;
-    out[at] = numbers[k];
-    Pen {
-        place: at,
-        height: p.height,
-        left: k,
-        later: p.later,
-        fits: p.fits,
-    }
+    let left = n - 1;
+    let place = p.place - 1;
+    out[place] = numbers[left];
+    Pen { place, left, ..p }
 }
 
 // One more later variable.
@@ -79,11 +58,8 @@ fn lengthened(p: Pen) -> Pen
     ensures place_value { (result.place ≡ p.place) × Near 0 0 1 p result }
 {
     Pen {
-        place: p.place,
-        height: p.height,
-        left: p.left,
         later: p.later + 1,
-        fits: p.fits,
+        ..p
     }
 }
 
@@ -98,13 +74,7 @@ fn pathed(out: &mut [u8], p: Pen) -> Pen
         return spoilt(p);
     }
     let q = wrote(out, p, (l + 1) as u8);
-    Pen {
-        place: q.place,
-        height: q.height,
-        left: q.left,
-        later: 0,
-        fits: q.fits,
-    }
+    Pen { later: 0, ..q }
 }
 
 fn low(v: u32) -> u8

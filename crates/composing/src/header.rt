@@ -13,9 +13,7 @@ fn row(out: &mut [u8], types: &[usize], a: usize, b: usize, place: usize) -> usi
     ensures b_value { result + b + 1 ≡ place + a }
 {
     let mut p = place;
-    let mut i = b;
-    while i > a {
-        i -= 1;
+    for i in (a..b).rev() {
         p -= 1;
         out[p] = types[i] as u8;
     }
@@ -31,11 +29,8 @@ pub fn write_header(out: &mut [u8], types: &[usize], offsets: &[usize], place: u
     ensures upper_bound { (result ≤ place) × (place ≤ result + front_most) }
 {
     let mut p = place;
-    let mut k = offsets.len() - 1;
-    while k > 0 {
-        let b = offsets[k];
-        k -= 1;
-        p = row(out, types, offsets[k], b, p);
+    for k in (1..offsets.len()).rev() {
+        p = row(out, types, offsets[k - 1], offsets[k], p);
     }
     p -= 1;
     out[p] = (offsets.len() - 1) as u8;

@@ -12,22 +12,14 @@ use program::form;
 fn tightness(c: u8) -> u8
     ensures { result ≡ tightness c }
 {
-    if c == 0 {
-        return 0;
+    match c {
+        0 => 0,
+        1..form::MUL => 3,
+        form::MUL..form::ADD => 5,
+        form::ADD..form::AND => 4,
+        form::AND..form::OR => 2,
+        _ => 1,
     }
-    if c < form::MUL {
-        return 3;
-    }
-    if c < form::ADD {
-        return 5;
-    }
-    if c < form::AND {
-        return 4;
-    }
-    if c < form::OR {
-        return 2;
-    }
-    1
 }
 
 // The operators that wait are written, the last one first, down to one that is not tighter than t, as far as there is room.
@@ -37,33 +29,26 @@ fn poured(out: &mut [u8], stack: &[u8], p: Pen, t: u8) -> Pen
         ≡ within (length out.old - margin) (poured t (stands out.old stack.now n p)) }
     ensures poured { Poured p result }
 {
-    let mut at = p.place;
-    let mut h = p.height;
-    while h > 0 {
-        let i = h - 1;
+    let mut place = p.place;
+    for i in (0..p.height).rev() {
         let c = stack[i];
         if tightness(c) <= t {
             return Pen {
-                place: at,
-                height: h,
-                left: p.left,
-                later: p.later,
-                fits: p.fits,
+                place,
+                height: i + 1,
+                ..p
             };
         }
-        if at <= sizes::MARGIN {
+        if place <= sizes::MARGIN {
             return bytes::spoilt(p);
         }
-        at -= 1;
-        out[at] = c;
-        h = i;
+        place -= 1;
+        out[place] = c;
     }
     Pen {
-        place: at,
-        height: h,
-        left: p.left,
-        later: p.later,
-        fits: p.fits,
+        place,
+        height: 0,
+        ..p
     }
 }
 

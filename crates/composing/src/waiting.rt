@@ -37,13 +37,7 @@ fn opened(stack: &mut [u8], p: Pen, c: u8) -> Pen
 {
     let h = p.height;
     stack[h] = c;
-    Pen {
-        place: p.place,
-        height: h + 1,
-        left: p.left,
-        later: p.later,
-        fits: p.fits,
-    }
+    Pen { height: h + 1, ..p }
 }
 
 // What waits last is taken off.
@@ -52,11 +46,8 @@ pub(crate) fn popped(p: Pen) -> Pen
     ensures { (result.place ≡ p.place) × (result.height + 1 ≡ p.height) × (result.left ≡ p.left) × (result.later ≡ p.later) × (result.fits ≡ p.fits) }
 {
     Pen {
-        place: p.place,
         height: p.height - 1,
-        left: p.left,
-        later: p.later,
-        fits: p.fits,
+        ..p
     }
 }
 

@@ -1,5 +1,7 @@
 -- What a count on images comes to (02 §14), stage by stage, of every program that is opened and every table that is seated.
-use Rattle.std.specs.Prelude.{ℕ, ◌*◌, ◌≤◌, ◌≡◌, List, length}
+use Rattle.std.specs.Prelude.{ℕ, ◌*◌, ◌≤◌, ◌≡◌, List, length, Result, Ok, Err}
+use Rattle.types.specs.Refusals.{number}
+use Rattle.types.specs.declared.refusal.Refusal.{Refusal}
 use Rattle.types.specs.Stages.{on}
 use Rattle.program.specs.Tree.{Program}
 use Rattle.program.specs.Reader.{Result.ok}
@@ -12,7 +14,7 @@ use Rattle.directory.specs.Directory.{directory}
 use Rattle.directory.specs.Rows.{row_places, rows_from}
 use Rattle.seating.specs.declared.Opened.{Opened}
 use Rattle.seating.specs.Seated.{Opens, Admits, Seated}
-use Rattle.counts.specs.CountEntry.{of_question, with_question, Counted, count_by}
+use Rattle.counts.specs.CountEntry.{of_question, with_question, Counted, counted, count_by}
 use Rattle.count_images.specs.declared.Counts.{Counts}
 use Rattle.count_images.specs.declared.Question.{Question}
 use Rattle.count_images.specs.declared.Asking.{Asking}
@@ -20,6 +22,16 @@ use Rattle.count_images.specs.declared.Asking.{Asking}
 -- as the code has it
 abbrev pub answer : Counted → Counts
 answer r = record { number = r.number; truths = r.true_orders; falsehoods = r.false_orders; stops = r.stopped_orders }
+
+-- that was made, or refused
+abbrev pub settled : Result Counts Refusal → Counts
+settled (Ok c) = c
+settled (Err n) = answer (counted (number n) 0 0 0)
+
+-- the number of a refusal; 0 where there is none
+abbrev pub why : Result (Unit {0}) Refusal → ℕ
+why (Ok u) = 0
+why (Err n) = number n
 
 -- a program and a table that are seated, with the rows of the program's step directory
 pub record Subject (s counts types rows : List ℕ) (a : Asking) (heads cells : List ℕ) (p : Program) (rs : List Record) : Type 0 where

@@ -2,3 +2,4 @@
 pub mod AskingLaws
 pub mod StartLaws
 pub mod AnswerLaws
+pub mod RefusalLaws

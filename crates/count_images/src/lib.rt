@@ -2,23 +2,24 @@
 // commands to the lent list, as a run leaves them there.
 #![tactic(auto)]
 
-ghost use Rattle.std.specs.Prelude.{◌≡◌, ◌≤◌, ◌<◌, length};
+ghost use Rattle.std.specs.Prelude.{◌≡◌, ◌≤◌, ◌<◌, length, IfOk};
 ghost use Rattle.types.specs.Limits.{max_structs, step_names};
 ghost use Rattle.scheduler.specs.Ready.{spans_size};
 ghost use Rattle.seating.specs.Seated.{Opening};
 ghost use Rattle.counts.specs.CountEntry.{counted, count, count_list};
 ghost use Rattle.count_images.specs.Asking.{Compilable, Compiled, has_step, Askable, place_number};
-ghost use Rattle.count_images.specs.Answers.{answer, Questionable, Questioned, Begins};
+ghost use Rattle.count_images.specs.Answers.{answer, why, settled, Questionable, Questioned, Begins};
 
 use compile::items::CODES;
 use compile::spans::SPANS;
 use counting::count::{Asked, all, commands};
 use directory::rows::ROWS;
 use engine::Machine;
-use load::Load;
 use scheduler::begin::begin_all;
 use scheduler::count::holding;
-use seating::{Opened, Seat, SeatRead};
+use seating::{Opened, Seat};
+use table_read::Parameters;
+use types::refusal::Refusal;
 
 // Commands that a step may have over all its instances.
 const MOST: usize = 12;
@@ -61,6 +62,16 @@ fn refused(number: u8) -> Counts
     }
 }
 
+// What a count answers that was made or was refused.
+fn settled(r: Result<Counts, Refusal>) -> Counts
+    ensures { result ≡ settled r }
+{
+    match r {
+        Ok(counts) => counts,
+        Err(refusal) => refused(u8::from(refusal)),
+    }
+}
+
 // The commands of a program into a list, and where each step's stand there.
 fn prepared(s: &[u8], counts: &[u8], rows: &[u16], a: Asking, list: &mut [u64], spans: &mut [u16])
     requires { Compilable s.now counts.now rows.now a list.old spans.old }
@@ -76,128 +87,113 @@ fn has_step(spans: &[u16], structs: usize, name: usize) -> bool
     requires { (spans_size ≤ length spans.now) × (structs ≤ max_structs) × (name < step_names) }
     ensures { result ≡ has_step spans.now name 0 structs }
 {
-    let mut k = 0;
-    while k < structs {
+    for k in 0..structs {
         let at = 2 * (types::STEP_NAMES * k + name);
         if spans[at] <= spans[at + 1] {
             return true;
         }
-        k += 1;
     }
     false
 }
 
-// 21 where the label or its parameter is not there, 8 where it is no Bool, else 0.
-fn place_number(heads: &[u16], counts: &[u8], types: &[u8], count: usize, q: Question) -> u8
-    requires { Askable heads.now counts.now types.now count }
-    ensures { result ≡ place_number heads.now counts.now types.now count q.label q.parameter }
+// 21 where the label or its parameter is not there, 8 where it is no Bool.
+fn placed(heads: &[u16], p: Parameters, count: usize, q: Question) -> Result<(), Refusal>
+    requires { Askable heads.now p.counts.now p.types.now count }
+    ensures { why result ≡ place_number heads.now p.entry.counts.now p.entry.types.now count q.label q.parameter }
 {
     if count <= q.label {
-        return types::number::ABSENT;
+        return Err(Refusal::Absent);
     }
     let k = layout::head(heads, q.label, layout::STRUCT);
-    if counts[k] as usize <= q.parameter {
-        return types::number::ABSENT;
+    if p.counts[k] as usize <= q.parameter {
+        return Err(Refusal::Absent);
     }
     let at = types::MAX_PARAMS * k + q.parameter;
-    if types[at] != types::BOOL {
-        return types::number::WRONG_TYPES;
+    if p.types[at] != types::BOOL {
+        return Err(Refusal::WrongTypes);
     }
-    0
+    Ok(())
 }
 
 // 7, 21, 8 and 24 in order, or the counts: the step is started on the memory of a seated table, whose commands are written into a list of its own, so that the
 // lent one is untouched where the input is refused.
 fn answered(
     s: &[u8],
-    counts: &[u8],
-    types: &[u8],
+    p: Parameters,
     rows: &[u16],
     a: Asking,
     heads: &mut [u16],
     cells: &mut [u64],
-) -> Counts
-    requires { Questionable s.now counts.now types.now rows.now a heads.old cells.old }
-    ensures { Questioned s.now counts.now types.now rows.now a heads.old cells.old result }
+) -> Result<Counts, Refusal>
+    requires { Questionable s.now p.counts.now p.types.now rows.now a heads.old cells.old }
+    ensures questioned { Questioned s.now p.entry.counts.now p.entry.types.now rows.now a heads.old cells.old (settled result) }
+    ensures counted { IfOk result (λ c. c.number ≡ 0) }
 {
     let mut list = [0u64; types::MAX_COMMANDS];
     let mut spans = [0u16; SPANS];
-    prepared(s, counts, rows, a, &mut list, &mut spans);
+    prepared(s, p.counts, rows, a, &mut list, &mut spans);
     let q = a.question;
     // 7
     if types::STEP_NAMES <= q.name {
-        return refused(types::number::WRONG_NAMES);
+        return Err(Refusal::WrongNames);
     }
-    if !has_step(&spans, counts.len(), q.name) {
-        return refused(types::number::WRONG_NAMES);
+    if !has_step(&spans, p.counts.len(), q.name) {
+        return Err(Refusal::WrongNames);
     }
     // 21 and 8
     let mut numbers = a.seat.numbers;
-    let n = place_number(heads, counts, types, numbers.count, q);
-    if n != 0 {
-        return refused(n);
-    }
+    placed(heads, p, numbers.count, q)?;
     begin_all(&spans, heads, q.name, numbers.count);
     // 24
     if MOST < commands(heads, numbers.count) {
-        return refused(types::number::MANY_COMMANDS);
+        return Err(Refusal::ManyCommands);
     }
     numbers.holding = holding(heads, numbers.count);
-    let t = all(
-        Machine { numbers },
-        &list,
-        counts,
-        heads,
-        cells,
-        Asked {
-            label: q.label,
-            parameter: q.parameter,
-        },
-    );
-    Counts {
+    let asked = Asked {
+        label: q.label,
+        parameter: q.parameter,
+    };
+    let t = all(Machine { numbers }, &list, p.counts, heads, cells, asked);
+    Ok(Counts {
         number: 0,
         truths: t.truths,
         falsehoods: t.falsehoods,
         stops: t.stops,
-    }
+    })
 }
 
 // After an accepted program: 9 to 12, 13, and what is asked; the commands are written into the lent list where it is answered.
-fn begun(o: Opened, s: &[u8], rows: &[u16], table: &[u8], q: Question, list: &mut [u64]) -> Counts
-    requires { Opening o s.now rows.now }
-    ensures { Begins o s.now rows.now table.now q list.old result list.new }
+fn begun(
+    o: &Opened,
+    s: &[u8],
+    rows: &[u16],
+    table: &[u8],
+    q: Question,
+    list: &mut [u64],
+) -> Result<Counts, Refusal>
+    requires { Opening o.now s.now rows.now }
+    ensures { Begins o.now s.now rows.now table.now q list.old (settled result) list.new }
 {
-    let p = o.loaded;
-    let counts = o.counts;
-    let types = o.types;
-    let k = p.structs as usize;
-    let end = types::MAX_PARAMS * k;
-    let cs = &counts[..k];
-    let ts = &types[..end];
+    let l = o.loaded;
+    let p = seating::parameters(o);
     let mut buffer = [0u8; types::TABLE_BLOCKS * blocks::PAYLOAD_SIZE];
     let mut heads = [0u16; layout::HEADS];
     let mut cells = [0u64; layout::CELLS];
     // 9 to 12
-    let seated = seating::seat_table(p.at, cs, ts, table, &mut buffer, &mut heads, &mut cells);
-    let SeatRead::Taken(seat) = seated else {
-        return refused(seating::refusal(seated));
-    };
+    let seat = seating::seat_table(l.at, p, table, &mut buffer, &mut heads, &mut cells)?;
     // 13
     if list.len() < types::MAX_COMMANDS {
-        return refused(types::number::NO_ROOM);
+        return Err(Refusal::NoRoom);
     }
     let a = Asking {
         seat,
         question: q,
-        plan: p.plan,
-        steps: p.steps as usize,
+        plan: l.plan,
+        steps: l.steps as usize,
     };
-    let r = answered(s, cs, ts, rows, a, &mut heads, &mut cells);
-    if r.number != 0 {
-        return r;
-    }
-    emit_steps::program(s, cs, seat.at, list);
-    r
+    let counts = answered(s, p, rows, a, &mut heads, &mut cells)?;
+    emit_steps::program(s, p.counts, seat.at, list);
+    Ok(counts)
 }
 
 // A program image, a table image, a step name, a label and a parameter: 1 to 8, 9 to 12, 13, 7, 21, 8 and 24 in order, or the three counts.
@@ -213,24 +209,17 @@ pub fn count(
     ensures list_after { list.new ≡ count_list program.now table.now name label parameter list.old }
 {
     let mut stream = [0u8; seating::SHORT];
-    let mut counts = [0u8; types::MAX_STRUCTS];
-    let mut types = [0u8; types::MAX_STRUCTS * types::MAX_PARAMS];
     let mut rows = [0u16; ROWS];
     // 1 to 8
-    let r = seating::admit(program, &mut stream, &mut counts, &mut types, &mut rows);
-    let Load::Program(loaded) = r else {
-        return refused(load::refusal(r));
+    let o = match seating::open_program(program, &mut stream, &mut rows) {
+        Ok(o) => o,
+        Err(refusal) => return refused(u8::from(refusal)),
     };
-    let n = loaded.length;
-    let o = Opened {
-        loaded,
-        counts,
-        types,
-    };
+    let n = o.loaded.length;
     let q = Question {
         name: name as usize,
         label: label as usize,
         parameter: parameter as usize,
     };
-    begun(o, &stream[..n], &rows, table, q, list)
+    settled(begun(&o, &stream[..n], &rows, table, q, list))
 }

@@ -1,25 +1,23 @@
-// Numbers and cells written into a lent slice, all of them from a place on.
-ghost use Rattle.std.specs.Prelude.{◌≡◌, ◌+◌, ◌≤◌, length};
+// The part of a slice that belongs to one instance, read as an array; and values written into a lent slice, all of them from a place on.
+ghost use Rattle.std.specs.Prelude.{◌≡◌, ◌+◌, ◌*◌, ◌≤◌, length, take, drop};
 ghost use Rattle.std.proofs.lemmas.List.Edits.{sets};
 
-pub(crate) fn numbers(dst: &mut [u16], at: usize, src: &[u16])
-    requires { at + length src.now ≤ length dst.old }
-    ensures { dst.new ≡ sets dst.old at src.now }
+// The l-th part of N values.
+pub(crate) fn part<T: Copy + Default, const N: usize>(src: &[T], l: usize) -> [T; N]
+    requires { N * l + N ≤ length src.now }
+    ensures { result ≡ take N (drop (N * l) src.now) }
 {
-    let mut i = 0;
-    while i < src.len() {
-        dst[at + i] = src[i];
-        i += 1;
-    }
+    let mut kept = [T::default(); N];
+    let from = N * l;
+    let to = from + N;
+    kept.copy_from_slice(&src[from..to]);
+    kept
 }
 
-pub(crate) fn cells(dst: &mut [u64], at: usize, src: &[u64])
+pub(crate) fn write<T: Copy>(dst: &mut [T], at: usize, src: &[T])
     requires { at + length src.now ≤ length dst.old }
     ensures { dst.new ≡ sets dst.old at src.now }
 {
-    let mut i = 0;
-    while i < src.len() {
-        dst[at + i] = src[i];
-        i += 1;
-    }
+    let end = at + src.len();
+    dst[at..end].copy_from_slice(src);
 }

@@ -31,10 +31,7 @@ fn held(heads: &[u16], l: usize) -> usize
 {
     let next = layout::head(heads, l, layout::NEXT);
     let end = layout::head(heads, l, layout::END);
-    if next < end {
-        return end - next;
-    }
-    0
+    end.saturating_sub(next)
 }
 
 // How many commands n instances hold.
@@ -43,10 +40,8 @@ pub fn commands(heads: &[u16], n: usize) -> usize
     ensures { result ≡ commands_in heads.now 0 n }
 {
     let mut sum: usize = 0;
-    let mut l = 0;
-    while l < n {
+    for l in 0..n {
         sum += held(heads, l);
-        l += 1;
     }
     sum
 }
@@ -148,11 +143,9 @@ pub fn all(
     }
     let n = machine.numbers.count;
     let mut sum = nothing();
-    let mut h = 0;
-    while h < n {
+    for h in 0..n {
         let more = one(machine, list, counts, heads, cells, h, a);
         sum = add(sum, more);
-        h += 1;
     }
     sum
 }

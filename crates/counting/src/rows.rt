@@ -2,7 +2,7 @@
 ghost use Rattle.std.specs.Prelude.{◌≡◌, ◌+◌, ◌*◌, ◌<◌, ◌≤◌, length};
 ghost use Rattle.types.specs.Limits.{max_instances};
 ghost use Rattle.layout.specs.Layout.{head_size, row_size};
-ghost use Rattle.counting.specs.Framed.{Fitting, fresh_row, stored_at, numbers_of, row_of, Saves, Sized, restored_heads, restored_cells};
+ghost use Rattle.counting.specs.Framed.{Fitting, fresh_row, stored_at, Saves, Sized, restored_heads, restored_cells};
 
 use crate::copies;
 use commands::kind;
@@ -23,31 +23,10 @@ pub(crate) fn fresh_row(count: usize, l: usize) -> usize
     ensures { result ≡ fresh_row count l }
 {
     if count < types::MAX_INSTANCES {
-        return count;
+        count
+    } else {
+        l
     }
-    l
-}
-
-fn numbers_of(heads: &[u16], l: usize) -> [u16; layout::HEAD_SIZE]
-    requires { head_size * l + head_size ≤ length heads.now }
-    ensures { result ≡ numbers_of heads.now l }
-{
-    let mut kept = [0u16; layout::HEAD_SIZE];
-    let from = layout::HEAD_SIZE * l;
-    let to = from + layout::HEAD_SIZE;
-    copies::numbers(&mut kept, 0, &heads[from..to]);
-    kept
-}
-
-fn row_of(cells: &[u64], l: usize) -> [u64; layout::ROW_SIZE]
-    requires { row_size * l + row_size ≤ length cells.now }
-    ensures { result ≡ row_of cells.now l }
-{
-    let mut kept = [0u64; layout::ROW_SIZE];
-    let from = layout::ROW_SIZE * l;
-    let to = from + layout::ROW_SIZE;
-    copies::cells(&mut kept, 0, &cells[from..to]);
-    kept
 }
 
 // The place that the next command of instance l stores a variable at, if it is a wr; else one in its own row.
@@ -72,10 +51,10 @@ pub(crate) fn save(list: &[u64], heads: &[u16], cells: &[u64], l: usize, f: usiz
         × (result.at < length cells.now) }
 {
     let at = stored_at(list, heads, cells, l);
-    let actor = numbers_of(heads, l);
-    let fresh = numbers_of(heads, f);
-    let row = row_of(cells, l);
-    let other = row_of(cells, f);
+    let actor = copies::part(heads, l);
+    let fresh = copies::part(heads, f);
+    let row = copies::part(cells, l);
+    let other = copies::part(cells, f);
     let cell = cells[at];
     Saved {
         actor,
@@ -98,9 +77,9 @@ pub(crate) fn restore(heads: &mut [u16], cells: &mut [u64], l: usize, f: usize, 
     let row = s.row;
     let other = s.other;
     let at = s.at;
-    copies::numbers(heads, layout::HEAD_SIZE * f, &fresh);
-    copies::numbers(heads, layout::HEAD_SIZE * l, &actor);
-    copies::cells(cells, layout::ROW_SIZE * f, &other);
-    copies::cells(cells, layout::ROW_SIZE * l, &row);
+    copies::write(heads, layout::HEAD_SIZE * f, &fresh);
+    copies::write(heads, layout::HEAD_SIZE * l, &actor);
+    copies::write(cells, layout::ROW_SIZE * f, &other);
+    copies::write(cells, layout::ROW_SIZE * l, &row);
     cells[at] = s.cell;
 }

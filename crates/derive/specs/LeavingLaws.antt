@@ -1,6 +1,6 @@
 -- What the loop leaves is each token's role in its place. And the loop's invariant.
-use Rattle.std.specs.Prelude.{ℕ, ◌+◌, ◌<◌, ◌≡◌, refl, Bool, true, false, List, [], ◌∷◌, ◌++◌, length, set, eqb}
-use Rattle.std.proofs.Common.{arith, sym, ap, ◌∙◌, append_assoc, length-set, length-append, eqb-true}
+use Rattle.std.specs.Prelude.{ℕ, ◌+◌, ◌<◌, ◌≡◌, refl, Bool, true, false, List, [], ◌∷◌, ◌++◌, length, set, eqb, Option, Some, None, IfSome, unwrap_or}
+use Rattle.std.proofs.Common.{arith, sym, ap, ◌∙◌, append_assoc, length-set, length-append, eqb-true, ne_eqb}
 use Rattle.std.proofs.lemmas.List.{set-append_left, set_at}
 use Rattle.tokens.specs.Marking.{kinds_in}
 use Rattle.text_shape.specs.Shape.{Shape, Shape.shape, sample, move}
@@ -59,6 +59,18 @@ amended_top d i r w h = go (eqb w 0) refl
     go : (b : Bool) → eqb w 0 ≡ b → amended (d ++ (r ∷ [])) i w ≡ d ++ (kept_or r w ∷ [])
     go true e = rw (amended, kept_or, e)
     go false e = rw (amended, kept_or, e, set_at d r [] w i h)
+
+-- as the code leaves them
+left_other : (m : List ℕ) (i last r x : ℕ) → 0 < x → set (set m last x) i r ≡ left m i last r x
+unfolding left amended
+left_other m i last r x p = rw (left, amended, ne_eqb x 0 (λ z. omega (arith, p, z))) refl
+
+pub left_some : (m : List ℕ) (i last r : ℕ) {o : Option ℕ} (x : ℕ) → o ≡ Some x → IfSome o (λ w. 0 < w) → set (set m last x) i r ≡ left m i last r (unwrap_or o 0)
+left_some m i last r x e p = left_other m i last r x (rw e at p) ∙ ap (λ o. left m i last r (unwrap_or o 0)) (sym e)
+
+pub left_none : (m : List ℕ) (i last r : ℕ) {o : Option ℕ} → o ≡ None → set m i r ≡ left m i last r (unwrap_or o 0)
+unfolding left amended
+left_none m i last r e = rw e refl
 
 -- what stands before place i, once the next token came
 awaits : Shape → ℕ → List ℕ → List ℕ → List ℕ

@@ -1,5 +1,5 @@
 -- What stands at each place of the tables, and that the two numbers of an act tell it: one test that is computed over all of them.
-use Rattle.std.specs.Prelude.{ℕ, zero, suc, ◌+◌, ◌<◌, ◌≡◌, refl, Bool, true, false, List, get_or, T, eqb}
+use Rattle.std.specs.Prelude.{ℕ, zero, suc, ◌+◌, ◌-◌, ◌<◌, ◌≡◌, refl, Bool, true, false, List, get_or, T, eqb}
 use Rattle.std.proofs.Common.{arith, add-zero, zero-add, add-suc, suc-add, le_of_suc-le-suc, not-suc-le-zero, sym, ◌∙◌, eqb-true}
 use Rattle.std.proofs.Math.Path.{ap}
 use Rattle.std.proofs.Math.ListN.{length}
@@ -48,6 +48,9 @@ module _ {t : List ℕ} {i : ℕ} where
   pub next_number : {n : ℕ} → t ≡ next_bytes → i < entries → get_or t i 0 ≡ digits_from + n → n ≡ next_of (act_at i)
   next_number e h g = omega (arith, next_here e h, g)
 
+  pub next_less : t ≡ next_bytes → i < entries → get_or t i 0 - digits_from ≡ next_of (act_at i)
+  next_less e h = omega (arith, next_here e h)
+
   pub opened_in : t ≡ opened_bytes → i < entries → i < length t
   unfolding opened_bytes
   opened_in e h = let l = values_length (λ j. digits_from + opened_of (act_at j)) 0 entries in omega (arith, ap length e ∙ l)
@@ -57,6 +60,9 @@ module _ {t : List ℕ} {i : ℕ} where
 
   pub opened_number : {n : ℕ} → t ≡ opened_bytes → i < entries → get_or t i 0 ≡ digits_from + n → n ≡ opened_of (act_at i)
   opened_number e h g = omega (arith, opened_here e h, g)
+
+  pub opened_less : t ≡ opened_bytes → i < entries → get_or t i 0 - digits_from ≡ opened_of (act_at i)
+  opened_less e h = omega (arith, opened_here e h)
 
   pub mark_in : t ≡ mark_bytes → i < entries → i < length t
   unfolding mark_bytes

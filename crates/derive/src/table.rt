@@ -1,15 +1,16 @@
 // The derivation's machine as three tables, 39 kinds for each code, two codes to a line. The acts (`text_shape/specs/Shape.antt`): where one goes to (0:
 // nowhere, `BELOW`: what was opened last takes the token), and what it opens (0: nothing). The roles (`text_shape/specs/RoleMarks.antt`).
-// A constant is laid down anew wherever it is lent: the functions that walk a text lend each once, and lend what was lent to them.
-ghost use Rattle.std.specs.Prelude.{◌≡◌, ◌+◌, ◌<◌, ◌≤◌, length, get_or};
-ghost use Rattle.derive.specs.Table.{entries, digits_from, mark_at, mark_bytes};
+ghost use Rattle.std.specs.Prelude.{◌≡◌, ◌<◌};
+ghost use Rattle.derive.specs.Table.{entries, act_at, mark_at, next_bytes, opened_bytes, mark_bytes};
+
+use text_shape::Act;
 
 // A number is the byte that is so far above it.
 const ZERO: u8 = b'0';
 
-pub(crate) const BELOW: u8 = 63;
+const BELOW: u8 = 63;
 
-pub(crate) const NEXT: [u8; 1833] =
+static NEXT: [u8; 1833] =
     *b"000000000000000000000000000000000000000030000000000000000000000000000000000000\
     030000P00000000000000000000000000000N00000000000000000000000000000000000000400\
     00000000000005000000000000000000000000000000000000000:000000000000000000000700\
@@ -35,7 +36,7 @@ pub(crate) const NEXT: [u8; 1833] =
     00000000000000D00F00000000000FFFFFFF000000E0000000000000000000000000FFFFFFF000\
     0000000000000000000=000000000FFFFFFF000";
 
-pub(crate) const OPENED: [u8; 1833] =
+static OPENED: [u8; 1833] =
     *b"000000000000000000000000000000000000000000000000000000000000000000000000000000\
     000000000000000000000000000000000000000000000000000000000000000000000000000000\
     000000000000000000000000000000000000000000000000000000000000000000000000000000\
@@ -62,7 +63,7 @@ pub(crate) const OPENED: [u8; 1833] =
     00000000000000000000000000000^^^^^WW000";
 
 // The role of a token; `_` where it is its kind, `^` where what was opened last says it.
-pub(crate) const MARKS: [u8; 1833] =
+static MARKS: [u8; 1833] =
     *b"______________________________________________________________________________\
     ____________________________________0______________________________________'__\
     _____________D_______________________________________E_____________________(__\
@@ -88,19 +89,44 @@ pub(crate) const MARKS: [u8; 1833] =
     ______________B__O____________________________________________________________\
     _______________________________________";
 
-// The number of a byte.
-pub(crate) fn number(t: &[u8], i: usize) -> u8
-    requires { (i < length t.now) × (digits_from ≤ get_or t.now i 0) }
-    ensures { get_or t.now i 0 ≡ digits_from + result }
+fn next() -> &'static [u8]
+    ensures { result.now ≡ next_bytes }
 {
-    let b = t[i];
-    b - ZERO
+    &NEXT
 }
 
-pub(crate) fn mark(t: &[u8], i: usize) -> u8
-    requires { (t.now ≡ mark_bytes) × (i < entries) }
+fn opened() -> &'static [u8]
+    ensures { result.now ≡ opened_bytes }
+{
+    &OPENED
+}
+
+fn marks() -> &'static [u8]
+    ensures { result.now ≡ mark_bytes }
+{
+    &MARKS
+}
+
+// The act at a place of the tables.
+pub(crate) fn act_at(i: usize) -> Act
+    requires { i < entries }
+    ensures { result ≡ act_at i }
+{
+    match next()[i] - ZERO {
+        0 => Act::Stop,
+        BELOW => Act::Below,
+        state => match opened()[i] - ZERO {
+            0 => Act::Go(state),
+            place => Act::Open(state, place),
+        },
+    }
+}
+
+// What the tables say of a role at a place.
+pub(crate) fn mark_at(i: usize) -> u8
+    requires { i < entries }
     ensures { result ≡ mark_at i }
 {
-    let b = t[i];
-    b
+    let marks = marks();
+    marks[i]
 }

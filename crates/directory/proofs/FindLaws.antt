@@ -2,9 +2,9 @@
 -- types, commands'; 000's S).
 use Prim.Native.Nat.{ℕ, zero, suc, ◌+◌, ◌-◌, ◌<◌, ◌≤◌}
 use native.Mathlib.Omega.{arith}
-use Rattle.std.specs.Prelude.{◌≡◌, Bool, ◌||◌, get_or}
+use Rattle.std.specs.Prelude.{◌≡◌, Bool, ◌||◌, get_or, is_some, Some, None}
 use Rattle.std.proofs.Math.Path.{refl, ap}
-use Rattle.std.proofs.Common.{◌∙◌}
+use Rattle.std.proofs.Common.{◌∙◌, sym}
 use Rattle.std.proofs.Math.Bool.{true, false}
 use Rattle.std.proofs.Math.Option.{Option, none, some}
 use mathlib.Core.List.{List, [], ◌∷◌, ◌++◌}
@@ -16,7 +16,6 @@ use Rattle.commands.specs.Bounds.{total, step_size}
 use Rattle.commands.specs.Context.{find_step, step_of}
 use Rattle.commands.specs.ProgramWords.{step_words, steps_words, structs_words, program_words}
 use Rattle.directory.specs.declared.Row.{Row}
-use Rattle.directory.specs.declared.rows.Sought.TheVariants.{Here, Nowhere}
 use Rattle.directory.specs.Directory.{row, steps_rows, structs_rows, directory, is_row, find_row, found, there}
 use Rattle.directory.specs.Rows.{row_at, rows_from, sought}
 use Rattle.directory.proofs.RowsLaws.{rows_none, rows_next}
@@ -85,21 +84,19 @@ there_last (x ∷ rs) r k n = go (is_row k n x) refl (there_last rs r k n)
     go false e h = rw (find_row, e) h
 
 -- what the search answers tells whether there is a row
-pub there_nowhere : (rs : List Row) (k n : ℕ) → sought (find_row rs k n) ≡ Nowhere → there rs k n ≡ false
+pub there_told : (rs : List Row) (k n : ℕ) → is_some (sought (find_row rs k n)) ≡ there rs k n
 unfolding there
-there_nowhere rs k n e = go (find_row rs k n) e
+there_told rs k n = go (find_row rs k n)
   where
-    go : (o : Option Row) → sought o ≡ Nowhere → found o ≡ false
-    go none e = refl
-    go (some r) e = let z : ◌≡◌ {A = ℕ} 0 1 = cc in absurd (omega arith)
+    go : (o : Option Row) → is_some (sought o) ≡ found o
+    go none = refl
+    go (some r) = refl
 
-pub there_here : (rs : List Row) (k n : ℕ) (r : Row) → sought (find_row rs k n) ≡ Here r → there rs k n ≡ true
-unfolding there
-there_here rs k n r e = go (find_row rs k n) e
-  where
-    go : (o : Option Row) → sought o ≡ Here r → found o ≡ true
-    go none e = let z : ◌≡◌ {A = ℕ} 0 1 = cc in absurd (omega arith)
-    go (some x) e = refl
+pub there_nowhere : (rs : List Row) (k n : ℕ) → sought (find_row rs k n) ≡ None → there rs k n ≡ false
+there_nowhere rs k n e = sym (there_told rs k n) ∙ ap is_some e
+
+pub there_here : (rs : List Row) (k n : ℕ) (r : Row) → sought (find_row rs k n) ≡ Some r → there rs k n ≡ true
+there_here rs k n r e = sym (there_told rs k n) ∙ ap is_some e
 
 -- what all rows have, the row that is found has
 abbrev pub IfFound : (Row → Type 0) → Option Row → Type 0

@@ -1,12 +1,10 @@
 -- How rows of the directory stand in lent memory: four numbers for each, one row behind the other.
-use Rattle.std.specs.Prelude.{ℕ, zero, suc, ◌+◌, ◌*◌, ◌≡◌, List, [], ◌∷◌, length, get_or}
+use Rattle.std.specs.Prelude.{ℕ, zero, suc, ◌+◌, ◌*◌, ◌≡◌, List, [], ◌∷◌, length, get_or, Option as Maybe, Some, None}
 use Rattle.std.proofs.Math.Option.{Option, none, some}
 use Rattle.std.proofs.lemmas.List.Edits.{sets}
 use Rattle.types.specs.Limits.{max_structs, max_steps}
 use Rattle.program.specs.Tree.{Program}
 use Rattle.directory.specs.declared.Row.{Row}
-use Rattle.directory.specs.declared.rows.Sought.{Sought}
-use Rattle.directory.specs.declared.rows.Sought.TheVariants.{Here, Nowhere}
 use Rattle.directory.specs.Directory.{row, directory}
 
 -- numbers of a row, and of as many rows as a program may have
@@ -37,6 +35,6 @@ abbrev pub Listed : List ℕ → Program → Type 0
 Listed l p = rows_from l 0 (length (directory p)) ≡ directory p
 
 -- a row that is found, as the code has it
-abbrev pub sought : Option Row → Sought
-sought none = Nowhere
-sought (some r) = Here r
+abbrev pub sought : Option Row → Maybe Row
+sought none = None
+sought (some r) = Some r

@@ -5,8 +5,7 @@ ghost use Rattle.emit.specs.Written.{Ready, Wrote, stmt_words, body_words, when_
 use crate::Put;
 use crate::exprs::{expr, make};
 use crate::words::{add, coded, store, target};
-use commands::kind;
-use little_endian::{index, wide};
+use commands::kind::Kind;
 use program::form;
 
 // A declaration: the expression, push this, and a wr of the local.
@@ -15,9 +14,9 @@ fn declare(s: &[u8], ar: &[u8], at: usize, out: &mut [u64], k: usize) -> Put
     ensures { Wrote declare_words (read_declare ar.now s.now at) out.old k result out.new }
 {
     let p = expr(s, ar, at + 2, types::EXPR_LEVELS, out, k);
-    let v = coded(kind::THIS, 0, 0);
+    let v = coded(Kind::This, 0, 0);
     let q = add(out, p, v);
-    let w = coded(kind::WR, 0, wide(s[at + 1]));
+    let w = coded(Kind::Wr, 0, u64::from(s[at + 1]));
     add(out, q, w)
 }
 
@@ -26,7 +25,7 @@ fn update(s: &[u8], ar: &[u8], at: usize, out: &mut [u64], k: usize) -> Put
     requires { Ready update_words (read_update ar.now s.now at) out.old k }
     ensures { Wrote update_words (read_update ar.now s.now at) out.old k result out.new }
 {
-    let n = index(s[at]);
+    let n = usize::from(s[at]);
     let p = expr(s, ar, at + 1 + n, types::EXPR_LEVELS, out, k);
     let i = p.at;
     let q = target(s, at, out, i);
@@ -42,17 +41,12 @@ fn stmt(s: &[u8], ar: &[u8], at: usize, depth: usize, out: &mut [u64], k: usize)
     requires { Ready stmt_words (read_stmt ar.now s.now depth at) out.old k }
     ensures { Wrote stmt_words (read_stmt ar.now s.now depth at) out.old k result out.new }
 {
-    let tag = s[at];
-    if tag == form::WHEN {
-        return when(s, ar, at + 1, depth - 1, out, k);
+    match s[at] {
+        form::WHEN => when(s, ar, at + 1, depth - 1, out, k),
+        form::DECLARE => declare(s, ar, at + 1, out, k),
+        form::UPDATE => update(s, ar, at + 1, out, k),
+        _ => make(s, ar, at + 1, types::EXPR_LEVELS, out, k),
     }
-    if tag == form::DECLARE {
-        return declare(s, ar, at + 1, out, k);
-    }
-    if tag == form::UPDATE {
-        return update(s, ar, at + 1, out, k);
-    }
-    make(s, ar, at + 1, types::EXPR_LEVELS, out, k)
 }
 
 // An if: its condition and its block.
@@ -76,7 +70,7 @@ fn block(s: &[u8], ar: &[u8], at: usize, depth: usize, out: &mut [u64], k: usize
     let p = body(s, ar, at, depth, out, k + 1);
     let j = p.at;
     let n = j - k - 1;
-    let v = coded(kind::IF, 0, n as u64);
+    let v = coded(Kind::If, 0, n as u64);
     store(out, k, v);
     p
 }
@@ -87,16 +81,13 @@ pub(crate) fn body(s: &[u8], ar: &[u8], at: usize, depth: usize, out: &mut [u64]
     requires { Ready body_words (body_at ar.now s.now depth at) out.old k }
     ensures { Wrote body_words (body_at ar.now s.now depth at) out.old k result out.new }
 {
-    let mut left = s[at];
+    let n = s[at];
     let mut p = Put {
         next: at + 1,
         at: k,
     };
-    while left != 0 {
-        let next = p.next;
-        let j = p.at;
-        p = stmt(s, ar, next, depth, out, j);
-        left -= 1;
+    for x in 0..n {
+        p = stmt(s, ar, p.next, depth, out, p.at);
     }
     p
 }

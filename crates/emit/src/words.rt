@@ -3,22 +3,23 @@ ghost use Rattle.std.specs.Prelude.{◌≡◌, ℕ, ◌+◌, ◌<◌, ◌≤◌,
 ghost use Rattle.std.proofs.lemmas.List.Edits.{sets};
 ghost use Rattle.types.specs.Limits.{nat_end};
 ghost use Rattle.commands.specs.Coding.{coded};
+ghost use Rattle.commands.specs.KindCodes.{kind_code};
 ghost use Rattle.program.specs.Reader.{read_path};
 ghost use Rattle.emit.specs.Written.{Ready, Wrote, path_words, target_words};
 ghost use Rattle.emit.specs.Leaf.{leaf_size, leaf_word, null_word, rd_words};
 ghost use Rattle.program.specs.Forms.{int_form};
 
 use crate::Put;
-use commands::kind;
-use little_endian::{wide, word_at};
+use commands::kind::Kind;
+use little_endian::word_at;
 use program::form;
 
 // The word of a command: its kind, the type byte of a push, its operand.
-pub(crate) fn coded(kind: u64, typ: u64, operand: u64) -> u64
-    requires { (kind < 256) × (typ < 256) × (operand < nat_end) }
-    ensures { result ≡ coded kind typ operand }
+pub(crate) fn coded(kind: Kind, typ: u64, operand: u64) -> u64
+    requires { (typ < 256) × (operand < nat_end) }
+    ensures { result ≡ coded (kind_code kind) typ operand }
 {
-    kind + 256 * typ + types::NAT_END * operand
+    u64::from(kind) + 256 * typ + types::NAT_END * operand
 }
 
 pub(crate) fn store(out: &mut [u64], k: usize, v: u64)
@@ -46,7 +47,7 @@ fn null_word(b: u8) -> u64
     ensures { result ≡ null_word b }
 {
     let v = types::default_word(b);
-    coded(kind::PUSH, wide(b), v as u64)
+    coded(Kind::Push, u64::from(b), u64::from(v))
 }
 
 pub(crate) fn leaf_size(tag: u8) -> usize
@@ -69,16 +70,16 @@ pub(crate) fn leaf(s: &[u8], at: usize) -> u64
     let tag = s[at];
     if tag < form::BOOL {
         let v = word_at(s, at + 1);
-        return coded(kind::PUSH, wide(tag - form::INT), v);
+        return coded(Kind::Push, u64::from(tag - form::INT), v);
     }
     if tag < form::THIS {
         let b = s[at + 1];
         if tag < form::NULL {
-            return coded(kind::PUSH, types::BOOL as u64, wide(b));
+            return coded(Kind::Push, u64::from(types::BOOL), u64::from(b));
         }
         return null_word(b);
     }
-    coded(kind::THIS, 0, 0)
+    coded(Kind::This, 0, 0)
 }
 
 // An rd of each of n variables.
@@ -86,17 +87,15 @@ fn reads(s: &[u8], at: usize, n: u8, out: &mut [u64], k: usize) -> Put
     requires { (at + n ≤ length s.now) × (k + n ≤ length out.old) }
     ensures { (result.next ≡ at + n) × (result.at ≡ k + n) × (out.new ≡ sets out.old k (rd_words s.now at n)) }
 {
-    let mut next = at;
-    let mut i = k;
-    let mut left = n;
-    while left != 0 {
-        let v = coded(kind::RD, 0, wide(s[next]));
-        store(out, i, v);
-        next += 1;
-        i += 1;
-        left -= 1;
+    for x in 0..n {
+        let i = usize::from(x);
+        let v = coded(Kind::Rd, 0, u64::from(s[at + i]));
+        store(out, k + i, v);
     }
-    Put { next, at: i }
+    Put {
+        next: at + usize::from(n),
+        at: k + usize::from(n),
+    }
 }
 
 // Push this, and an rd of each variable of the path at a place.
@@ -105,7 +104,7 @@ pub(crate) fn path(s: &[u8], at: usize, out: &mut [u64], k: usize) -> Put
     ensures { Wrote path_words (read_path s.now at) out.old k result out.new }
 {
     let n = s[at];
-    let v = coded(kind::THIS, 0, 0);
+    let v = coded(Kind::This, 0, 0);
     store(out, k, v);
     reads(s, at + 1, n, out, k + 1)
 }
@@ -116,12 +115,12 @@ pub(crate) fn target(s: &[u8], at: usize, out: &mut [u64], k: usize) -> Put
     ensures { Wrote target_words (read_path s.now at) out.old k result out.new }
 {
     let n = s[at];
-    let v = coded(kind::THIS, 0, 0);
+    let v = coded(Kind::This, 0, 0);
     store(out, k, v);
     let p = reads(s, at + 1, n - 1, out, k + 1);
     let last = p.next;
     let i = p.at;
-    let w = coded(kind::WR, 0, wide(s[last]));
+    let w = coded(Kind::Wr, 0, u64::from(s[last]));
     store(out, i, w);
     Put {
         next: last + 1,

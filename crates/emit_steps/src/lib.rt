@@ -15,16 +15,13 @@ fn of_struct(s: &[u8], ar: &[u8], p: Put, list: &mut [u64]) -> Put
     ensures { Wrote steps_words (read_steps ar.now s.now p.next) list.old p.at result list.new }
 {
     let at = p.next;
-    let mut left = s[at];
+    let n = s[at];
     let mut z = Put {
         next: at + 1,
         at: p.at,
     };
-    while left != 0 {
-        let next = z.next;
-        let k = z.at;
-        z = emit::steps::step(s, ar, next, list, k);
-        left -= 1;
+    for x in 0..n {
+        z = emit::steps::step(s, ar, z.next, list, z.at);
     }
     z
 }
@@ -34,10 +31,9 @@ pub fn program(s: &[u8], ar: &[u8], at: usize, list: &mut [u64])
     requires { Ready structs_words (structs_at ar.now s.now (length ar.now) at) list.old 0 }
     ensures { EmittedProgram ar.now s.now at list.old list.new }
 {
-    let mut left = ar.len();
+    let n = ar.len();
     let mut z = Put { next: at, at: 0 };
-    while left != 0 {
+    for k in 0..n {
         z = of_struct(s, ar, z, list);
-        left -= 1;
     }
 }

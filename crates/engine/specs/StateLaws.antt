@@ -8,8 +8,7 @@ use Rattle.layout.specs.declared.Numbers.{Numbers}
 use Rattle.layout.specs.State.{state_of, set_holding, set_from}
 use Rattle.memory.specs.Choose.{fewer}
 use Rattle.memory.specs.Act.{next_word, perform, turned, counted, act}
-use Rattle.execute_stack.specs.declared.Acted.{Acted}
-use Rattle.execute_stack.specs.Answers.{answering, DoesWith}
+use Rattle.execute_stack.specs.Answers.{Answer, answering, DoesWith}
 
 module _ (list counts h c : List ℕ) (l : ℕ) (m : Numbers) where
   -- the word that instance l takes
@@ -17,7 +16,7 @@ module _ (list counts h c : List ℕ) (l : ℕ) (m : Numbers) where
   word = next_word list (state_of m h c) l
 
   -- numbers that the answer r makes of the machine's are those after the command
-  pub acted : (r : Acted) {h' c' : List ℕ} {m' : Numbers}
+  pub acted : (r : Answer) {h' c' : List ℕ} {m' : Numbers}
       → DoesWith m.count (λ z. perform counts l z (word % 256) word (operand word)) r h c h' c'
       → ((x y : List ℕ) → state_of m' x y ≡ answering r (state_of m x y))
       → {n : ℕ} → n ≡ fewer (holds h' l) m.holding

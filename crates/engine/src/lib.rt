@@ -12,9 +12,10 @@ ghost use Rattle.execute_stack.specs.Answers.{answering};
 ghost use Rattle.scheduler.specs.Ready.{Movable};
 
 use execute::perform;
-use execute_stack::Acted;
+use execute_stack::Effect;
 use layout::Numbers;
 use scheduler::schedule::advance;
+use types::refusal::Refusal;
 
 #[derive(Clone, Copy)]
 pub struct Machine {
@@ -22,26 +23,29 @@ pub struct Machine {
 }
 
 // What the answer of a command makes of the numbers.
-fn after(numbers: Numbers, acted: Acted) -> Numbers
+fn after(numbers: Numbers, acted: Result<Effect, Refusal>) -> Numbers
     requires { numbers.count < 2 ^ 63 }
     ensures { (h c : List ℕ) → state_of result h c ≡ answering acted (state_of numbers h c) }
 {
-    let mut next = numbers;
     match acted {
-        Acted::Kept => {}
-        Acted::Wrote(same) => {
-            let product = numbers.stable * (same as usize);
-            next.stable = product;
+        Ok(Effect::Kept) => numbers,
+        Ok(Effect::Wrote(same)) => {
+            let product = numbers.stable * usize::from(same);
+            Numbers {
+                stable: product,
+                ..numbers
+            }
         }
-        Acted::Made => {
-            next.stable = 0;
-            next.count = numbers.count + 1;
-        }
-        Acted::Refused(n) => {
-            next.number = n;
-        }
+        Ok(Effect::Made) => Numbers {
+            stable: 0,
+            count: numbers.count + 1,
+            ..numbers
+        },
+        Err(refusal) => Numbers {
+            number: u8::from(refusal),
+            ..numbers
+        },
     }
-    next
 }
 
 // How many hold commands behind a command of instance l, where n did before it: the others hold what they held.
@@ -49,10 +53,7 @@ fn left_holding(heads: &[u16], l: usize, n: usize) -> usize
     requires { (head l end_of < length heads.now) × (0 < n) }
     ensures { result ≡ fewer (holds heads.now l) n }
 {
-    if layout::holds(heads, l) {
-        return n;
-    }
-    n - 1
+    if layout::holds(heads, l) { n } else { n - 1 }
 }
 
 // Turns are counted on from the label after l, where its command was not refused (02, 'Turns that go round').
@@ -63,9 +64,10 @@ fn turned(numbers: Numbers, l: usize) -> Numbers
     if numbers.number != 0 {
         return numbers;
     }
-    let mut next = numbers;
-    next.from = l + 1;
-    next
+    Numbers {
+        from: l + 1,
+        ..numbers
+    }
 }
 
 impl Machine {

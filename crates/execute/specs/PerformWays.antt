@@ -6,8 +6,7 @@ use Rattle.layout.specs.State.{State}
 use Rattle.memory.specs.Act.{perform}
 use Rattle.memory.specs.Fit.{Needed}
 use Rattle.execute_stack.specs.declared.Actor.{Actor}
-use Rattle.execute_stack.specs.declared.Acted.{Acted}
-use Rattle.execute_stack.specs.Answers.{seen, Acting, on, DoesWith}
+use Rattle.execute_stack.specs.Answers.{Answer, seen, Acting, on, DoesWith}
 use Rattle.execute.specs.Ready.{Room, memory, Ready}
 
 -- the actor as memory has it may act: behind its command there is a place, where the end of its commands is a number of two bytes
@@ -29,7 +28,7 @@ module _ (counts h c : List ℕ) (l n w k : ℕ) (e : w % 256 ≡ k) {v : ℕ} (
   needed_by r = rw (o) (subst (λ (x : ℕ). Needed counts l (memory h c) x (operand w)) e r.needed)
 
   -- where f is the command of kind k, what does f does the command
-  pub performs : (f : State → State) → ((z : State) → f z ≡ perform counts l z k w v) → (r : Acted) (h' c' : List ℕ)
+  pub performs : (f : State → State) → ((z : State) → f z ≡ perform counts l z k w v) → (r : Answer) (h' c' : List ℕ)
       → DoesWith n f r h c h' c'
       → DoesWith n (λ z. perform counts l z (w % 256) w (operand w)) r h c h' c'
   performs f g r h' c' d z q = rw (e, ← o) (d z q ∙ g (on z h c))

@@ -1,19 +1,22 @@
 -- Each way through the command that makes an instance, over plain values (01, 'Table and turns', number 34).
-use Rattle.std.specs.Prelude.{ℕ, suc, ◌+◌, ◌-◌, ◌*◌, ◌<◌, ◌≤◌, ◌≡◌, List, length, get_or, set, take, drop}
+use Rattle.std.specs.Prelude.{ℕ, ◌+◌, ◌-◌, ◌*◌, ◌<◌, ◌≤◌, ◌≡◌, List, length, get_or, set, take, drop, Ok, Err, suc}
 use Rattle.std.proofs.Math.Numerals.{add-one}
 use native.Mathlib.Omega.{arith}
-use Rattle.std.proofs.Common.{sym, ap, ◌∙◌, length-drop, length-take-le, get_or-drop}
+use Rattle.std.proofs.Common.{sym, ◌∙◌, length-drop, length-take-le, ap, get_or-drop}
+use Rattle.std.specs.List.{copy_within}
 use Rattle.std.proofs.lemmas.List.Edits.{sets, sets-eq}
-use Rattle.std.proofs.Math.Seq.{length-sets, paste, paste-suc}
+use Rattle.std.proofs.Math.Seq.{paste}
 use borrow.Author.Tests.{lt-ltb, le-ltb}
 use Rattle.types.specs.Limits.{max_instances}
 use Rattle.layout.specs.Layout.{head_size, row_size, stacked, label_cell, going, new_head}
-use Rattle.memory.specs.Act.{full, made, do_cons}
-use Rattle.memory.proofs.Laws.RowLaws.{sets_other}
+use Rattle.memory.specs.Act.{made, do_cons}
 use Rattle.execute_stack.specs.declared.Actor.{Actor}
-use Rattle.execute_stack.specs.declared.Acted.TheVariants.{Made, Refused}
+use Rattle.types.specs.declared.refusal.Refusal.TheVariants.{Full}
+use Rattle.execute_stack.specs.declared.Effect.TheVariants.{Made}
 use Rattle.execute_stack.specs.Answers.{seen, Acting, answering, DoesWith}
 use Rattle.execute_stack.specs.StackWays.{as_seen}
+use Rattle.std.proofs.Math.Seq.{length-sets, paste-suc}
+use Rattle.memory.proofs.Laws.RowLaws.{sets_other}
 
 -- The copy of n cells, which lie before the place they go to -----------------------
 
@@ -49,7 +52,13 @@ module _ (c : List ℕ) (from to : ℕ) where
       ∙ paste-suc c to (drop from c) i 0 (omega arith) (omega arith)
       ∙ sym (copied_paste (suc i) (omega arith) (omega arith)))
 
-pub full_way : (counts h c : List ℕ) (l n k : ℕ) → max_instances ≤ n → DoesWith n (λ z. do_cons counts l z k) (Refused full) h c h c
+  -- the library's copy within a slice
+  pub copied_within : (n e : ℕ) → e ≡ from + n → from + n ≤ to → to + n ≤ length c → copy_within c from e to ≡ copied n
+  copied_within n e q b w =
+      let d : e - from ≡ n = omega arith in
+      rw (copy_within, d) (sym (copied_paste n b w))
+
+pub full_way : (counts h c : List ℕ) (l n k : ℕ) → max_instances ≤ n → DoesWith n (λ z. do_cons counts l z k) (Err Full) h c h c
 unfolding do_cons answering
 full_way counts h c l n k b z e =
     let m : max_instances ≤ z.machine.count = omega arith in
@@ -69,7 +78,7 @@ pub record Making (counts h c : List ℕ) (a : Actor) (n k : ℕ) (h₁ c₁ : L
   pub put : (h' ≡ going h₁ a.label (low counts k a + 1) (a.next + 1)) × (c' ≡ set c₁ (stacked a.label (low counts k a)) w)
 
 module _ (counts h c : List ℕ) (n k : ℕ) {h₁ c₁ : List ℕ} {w : ℕ} {h' c' : List ℕ} where
-  made_seen : (l : ℕ) → n < max_instances → Making counts h c (seen h l) n k h₁ c₁ w h' c' → DoesWith n (λ z. do_cons counts l z k) Made h c h' c'
+  made_seen : (l : ℕ) → n < max_instances → Making counts h c (seen h l) n k h₁ c₁ w h' c' → DoesWith n (λ z. do_cons counts l z k) (Ok Made) h c h' c'
   unfolding do_cons made answering
   made_seen l b s z e =
       let m : z.machine.count < max_instances = omega arith in
@@ -87,6 +96,6 @@ module _ (counts h c : List ℕ) (n k : ℕ) {h₁ c₁ : List ℕ} {w : ℕ} {h
       )
 
   pub made_way : {a : Actor} → Acting h c a → n < max_instances → Making counts h c a n k h₁ c₁ w h' c'
-      → DoesWith n (λ z. do_cons counts a.label z k) Made h c h' c'
+      → DoesWith n (λ z. do_cons counts a.label z k) (Ok Made) h c h' c'
   made_way {a} g b =
-      as_seen g (λ d. Making counts h c d n k h₁ c₁ w h' c' → DoesWith n (λ z. do_cons counts d.label z k) Made h c h' c') (made_seen a.label b)
+      as_seen g (λ d. Making counts h c d n k h₁ c₁ w h' c' → DoesWith n (λ z. do_cons counts d.label z k) (Ok Made) h c h' c') (made_seen a.label b)

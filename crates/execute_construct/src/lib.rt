@@ -7,19 +7,8 @@ ghost use Rattle.memory.specs.Act.{do_cons};
 ghost use Rattle.memory.specs.Fit.{ConsFit};
 ghost use Rattle.execute_stack.specs.Answers.{Acting, DoesWith};
 
-use execute_stack::{Acted, Actor, put};
-
-// n cells from one place to another, which lies behind them.
-fn copy(cells: &mut [u64], from: usize, to: usize, n: usize)
-    requires { (from + n ≤ to) × (to + n ≤ length cells.old) }
-    ensures { cells.new ≡ sets cells.old to (take n (drop from cells.old)) }
-{
-    let mut i = 0;
-    while i < n {
-        cells[to + i] = cells[from + i];
-        i += 1;
-    }
-}
+use execute_stack::{Actor, Effect, put};
+use types::refusal::Refusal;
 
 // cons k: the values on top become the parameters of the new instance, whose label takes their place.
 pub fn construct(
@@ -29,7 +18,7 @@ pub fn construct(
     a: Actor,
     count: usize,
     k: usize,
-) -> Acted
+) -> Result<Effect, Refusal>
     requires acting { Acting heads.old cells.old a }
     requires cons_fit { ConsFit counts.now a.height k }
     requires label_lt_count { a.label < count }
@@ -37,19 +26,15 @@ pub fn construct(
         cells.new }
 {
     if types::MAX_INSTANCES <= count {
-        return Acted::Refused(types::number::FULL);
+        return Err(Refusal::Full);
     }
     let l = a.label;
     let p = counts[k] as usize;
     let low = a.height - p;
-    copy(
-        cells,
-        layout::ROW_SIZE * l + types::VARIABLES + low,
-        layout::ROW_SIZE * count,
-        p,
-    );
+    let values = layout::ROW_SIZE * l + types::VARIABLES + low;
+    cells.copy_within(values..values + p, layout::ROW_SIZE * count);
     layout::seat(heads, count, k);
     let c = layout::cell(types::STRUCT + k as u8, count as u64);
     put(heads, cells, l, low, c, a.next + 1);
-    Acted::Made
+    Ok(Effect::Made)
 }

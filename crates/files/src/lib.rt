@@ -1,19 +1,31 @@
-// Files that arguments name and the standard streams, read whole into a buffer and written from one. What cannot be done is told on standard error.
+// Files that arguments name and the standard streams, read whole into a lent buffer and written from one.
 #![tactic(auto)]
 
-ghost use Rattle.std.specs.Prelude.{◌≡◌, false, is_ok};
+ghost use Rattle.std.specs.Prelude.{IfOk, IfErr, MatchResult};
 ghost use Rattle.io.specs.Counts.{IsPrefixLen};
-ghost use Rattle.files.specs.Answers.{AllOrNone};
+ghost use Rattle.files.specs.Failures.{OfInput, OfOutput, OfFile};
 
+use arrayvec::ArrayString;
 use std::env::{Env, FillError};
+use std::fmt::Write as FmtWrite;
 use std::fs::File;
-use std::io::{Error, Print, Read, Write};
+use std::io::{Read, Write};
+use std::{error, fmt, fs, io};
 
-// Whether all was read, and how many bytes of it stand in the buffer: none where it was not, and why was told.
-#[derive(Clone, Copy)]
-pub struct Loaded {
-    pub done: bool,
-    pub len: usize,
+// What a program reads and writes: the standard streams, an argument, the file that one names.
+#[derive(Debug, Drop)]
+pub enum Place {
+    Input,
+    Output,
+    Argument,
+    File(String),
+}
+
+// Why a program reads or writes nothing: it was called in another way than its help says; or reading or writing failed there.
+#[derive(Debug, Drop)]
+pub enum Failure {
+    Usage,
+    Io(Place, io::Error),
 }
 
 // The system's numbers of an argument that is not there, of one that is too long, and of one that is no text.
@@ -23,65 +35,59 @@ const TOO_LONG: i32 = 36;
 
 const NO_TEXT: i32 = 84;
 
-// The longest name of a file, with a byte behind it.
+// The longest name of a file, with a byte after it.
 const NAME: usize = 4096;
 
-// A line on standard error: what failed, and why.
-fn fail(rt: &HostRuntime, what: &[u8], why: Error) {
-    tell(rt, what);
-    tell(rt, b": ");
-    match format!(in rt.alloc(); "{why}") {
-        Ok(text) => tell(rt, reason(text.as_str()).as_bytes()),
-        Err(_) => tell(rt, b"out of memory"),
+// The longest text of an error.
+const TEXT: usize = 320;
+
+impl fmt::Display for Place {
+    fn fmt<W: fmt::Write>(&self, f: &mut fmt::Formatter<W>) -> fmt::Result {
+        match self {
+            Place::Input => write!(f, "standard input"),
+            Place::Output => write!(f, "standard output"),
+            Place::Argument => write!(f, "an argument"),
+            Place::File(path) => write!(f, "{path}"),
+        }
     }
-    tell(rt, b"\n");
 }
 
-// The words of an error, without the system's number behind them.
-fn reason(text: &str) -> &str {
+// The words of an error, without the system's number after them.
+fn words(text: &str) -> &str {
     match text.split_once(" (os error ") {
         Some((words, _)) => words,
         None => text,
     }
 }
 
-// Nothing, where all was not read.
-fn none(buf: &[u8]) -> Loaded
-    ensures prefix_len { IsPrefixLen result.len buf.now }
-    ensures done_value { (result.done ≡ false) × (result.len ≡ 0) }
-{
-    Loaded {
-        done: false,
-        len: io::count(0, buf),
+impl fmt::Display for Failure {
+    fn fmt<W: fmt::Write>(&self, f: &mut fmt::Formatter<W>) -> fmt::Result {
+        match self {
+            Failure::Usage => write!(f, "called in another way than the help says"),
+            Failure::Io(place, why) => {
+                let mut text = ArrayString::<TEXT>::new();
+                write!(text, "{why}")?;
+                let words = words(text.as_str());
+                write!(f, "{place}: {words}")
+            }
+        }
     }
 }
 
-// What was not read, which is told.
-fn unread(rt: &HostRuntime, buf: &[u8], what: &[u8], why: Error) -> Loaded
-    ensures prefix_len { IsPrefixLen result.len buf.now }
-    ensures done_value { (result.done ≡ false) × (result.len ≡ 0) }
-{
-    fail(rt, what, why);
-    none(buf)
-}
+impl error::Error for Failure {}
 
-// What is left to read: as many bytes as the buffer has places for.
-fn read<R: Read>(rt: &HostRuntime, from: &mut R, buf: &mut [u8], what: &[u8]) -> Loaded
-    ensures prefix_len { IsPrefixLen result.len buf.new }
-    ensures all_or_none { AllOrNone result.done result.len }
+// As many bytes as the buffer has places for, or all that are left to read; how many.
+fn fill<R: Read>(from: &mut R, buf: &mut [u8]) -> io::Result<usize>
+    ensures { IfOk result (λ n. IsPrefixLen n buf.new) }
 {
     let mut done = 0;
     while done < buf.len() {
-        match from.read(&mut buf[done..]) {
-            Ok(0) => break,
-            Ok(n) => done += n,
-            Err(why) => return unread(rt, buf, what, why),
+        match from.read(&mut buf[done..])? {
+            0 => break,
+            n => done += n,
         }
     }
-    Loaded {
-        done: true,
-        len: done,
-    }
+    Ok(done)
 }
 
 // How many words a program was called with, its own name among them.
@@ -94,105 +100,69 @@ pub fn arg_count(rt: &HostRuntime) -> usize {
     usize::MAX
 }
 
-// Whether a program was called with so many words, its own name among them; if not, its help is told.
-fn called(rt: &HostRuntime, words: usize, help: &[u8]) -> bool {
-    let right = arg_count(rt) == words;
-    if !right {
-        tell(rt, help);
-    }
-    right
-}
-
-// Standard input, for a program that takes no arguments. Where it was given any, its help is told, and nothing is read.
-pub fn input(rt: &HostRuntime, help: &[u8], buf: &mut [u8]) -> Loaded
-    ensures prefix_len { IsPrefixLen result.len buf.new }
-    ensures all_or_none { AllOrNone result.done result.len }
+// Standard input, for a program that takes no arguments; how many bytes. Where it was given any, nothing is read.
+pub fn input(rt: &HostRuntime, buf: &mut [u8]) -> Result<usize, Failure>
+    ensures { MatchResult result (λ n. IsPrefixLen n buf.new) OfInput }
 {
-    if !called(rt, 1, help) {
-        return none(buf);
+    if arg_count(rt) != 1 {
+        return Err(Failure::Usage);
     }
-    read(rt, &mut rt.stdin(), buf, b"standard input")
+    fill(&mut rt.stdin(), buf).map_err(|why| Failure::Io(Place::Input, why))
 }
 
-// Argument i, in the front of a buffer, or why it is not there.
-fn name<'a>(rt: &HostRuntime, i: usize, buf: &'a mut [u8; NAME]) -> Result<&'a str, Error> {
-    match rt.arg(i, buf) {
-        Ok(n) => text(&buf[..n]),
-        Err(FillError::NotPresent) => Err(Error::from_raw_os_error(INVALID)),
-        Err(FillError::TooLong) => Err(Error::from_raw_os_error(TOO_LONG)),
-    }
+// Argument i. An argument that is too long or no text has an error of its own, which the `Args` of std do not tell apart.
+fn name(rt: &HostRuntime, i: usize) -> io::Result<String> {
+    let mut buf = [0u8; NAME];
+    let n = match rt.arg(i, &mut buf) {
+        Ok(n) => n,
+        Err(FillError::NotPresent) => return Err(io::Error::from_raw_os_error(INVALID)),
+        Err(FillError::TooLong) => return Err(io::Error::from_raw_os_error(TOO_LONG)),
+    };
+    let Ok(text) = str::from_utf8(&buf[..n]) else {
+        return Err(io::Error::from_raw_os_error(NO_TEXT));
+    };
+    Ok(String::from_str(rt.alloc(), text)?)
 }
 
-fn text(bytes: &[u8]) -> Result<&str, Error> {
-    match str::from_utf8(bytes) {
-        Ok(text) => Ok(text),
-        Err(_) => Err(Error::from_raw_os_error(NO_TEXT)),
-    }
-}
-
-// The bytes of the file that argument i names.
-pub fn load(rt: &HostRuntime, i: usize, buf: &mut [u8]) -> Loaded
-    ensures prefix_len { IsPrefixLen result.len buf.new }
-    ensures all_or_none { AllOrNone result.done result.len }
+fn path(rt: &HostRuntime, i: usize) -> Result<String, Failure>
+    ensures { IfErr result OfFile }
 {
-    let mut place = [0u8; NAME];
-    match name(rt, i, &mut place) {
-        Ok(path) => load_named(rt, path, buf),
-        Err(why) => unread(rt, buf, b"an argument", why),
-    }
+    name(rt, i).map_err(|why| Failure::Io(Place::Argument, why))
 }
 
-fn load_named(rt: &HostRuntime, path: &str, buf: &mut [u8]) -> Loaded
-    ensures prefix_len { IsPrefixLen result.len buf.new }
-    ensures all_or_none { AllOrNone result.done result.len }
+// The bytes of the file that argument i names; how many.
+pub fn load(rt: &HostRuntime, i: usize, buf: &mut [u8]) -> Result<usize, Failure>
+    ensures { MatchResult result (λ n. IsPrefixLen n buf.new) OfFile }
 {
-    match File::open(rt, path) {
-        Ok(file) => {
-            let mut file = file;
-            read(rt, &mut file, buf, path.as_bytes())
-        }
-        Err(why) => unread(rt, buf, path.as_bytes(), why),
+    let path = path(rt, i)?;
+    match load_named(rt, path.as_str(), buf) {
+        Ok(n) => Ok(n),
+        Err(why) => Err(Failure::Io(Place::File(path), why)),
     }
 }
 
-// Whether all was written, as it was answered; where it was not, that is told.
-fn told(rt: &HostRuntime, done: Result<(), Error>, what: &[u8]) -> bool
-    ensures { result ≡ is_ok done }
+fn load_named(rt: &HostRuntime, path: &str, buf: &mut [u8]) -> io::Result<usize>
+    ensures { IfOk result (λ n. IsPrefixLen n buf.new) }
 {
-    match done {
-        Ok(()) => true,
-        Err(why) => {
-            fail(rt, what, why);
-            false
-        }
+    fill(&mut File::open(rt, path)?, buf)
+}
+
+// All bytes to standard output.
+pub fn output(rt: &HostRuntime, bytes: &[u8]) -> Result<(), Failure>
+    ensures { IfErr result OfOutput }
+{
+    rt.stdout()
+        .write_all(bytes)
+        .map_err(|why| Failure::Io(Place::Output, why))
+}
+
+// All bytes to the file that argument i names.
+pub fn store(rt: &HostRuntime, i: usize, bytes: &[u8]) -> Result<(), Failure>
+    ensures { IfErr result OfFile }
+{
+    let path = path(rt, i)?;
+    match fs::write(rt, path.as_str(), bytes) {
+        Ok(()) => Ok(()),
+        Err(why) => Err(Failure::Io(Place::File(path), why)),
     }
-}
-
-// All bytes to standard output; whether that was done.
-pub fn output(rt: &HostRuntime, bytes: &[u8]) -> bool {
-    told(rt, rt.stdout().write_all(bytes), b"standard output")
-}
-
-// A text to standard error.
-pub fn tell(rt: &HostRuntime, text: &[u8]) {
-    let _ = rt.stderr().write_all(text);
-}
-
-// A number to standard error.
-pub fn tell_number(rt: &HostRuntime, n: u64) {
-    let _ = rt.eprint(n);
-}
-
-// All bytes to the file that argument i names; whether that was done.
-pub fn store(rt: &HostRuntime, i: usize, bytes: &[u8]) -> bool {
-    let mut place = [0u8; NAME];
-    match name(rt, i, &mut place) {
-        Ok(path) => told(rt, written(rt, path, bytes), path.as_bytes()),
-        Err(why) => told(rt, Err(why), b"an argument"),
-    }
-}
-
-fn written(rt: &HostRuntime, path: &str, bytes: &[u8]) -> Result<(), Error> {
-    let mut file = File::create(rt, path)?;
-    file.write_all(bytes)
 }

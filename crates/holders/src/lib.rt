@@ -7,8 +7,8 @@ ghost use Rattle.types.specs.Limits.{max_instances};
 ghost use Rattle.layout.specs.Layout.{head_size};
 ghost use Rattle.holders.specs.Records.{Recorded, holder_in};
 
-// What the search needs of an instance: whether it holds commands.
-#[derive(Clone, Copy)]
+// What the search needs of an instance: whether it holds commands (docs/DECISIONS.md: a search over a lent slice of instance records).
+#[derive(Clone, Copy, PartialEq, Eq, Debug)]
 pub struct Record {
     pub holds: bool,
 }
@@ -21,18 +21,16 @@ pub fn holder(rs: &[Record], n: usize, from: usize, r: usize) -> usize
 {
     let mut left = r;
     let mut l = from;
-    let mut passed: usize = 0;
-    while passed < n {
+    for _passed in 0..n {
         if n <= l {
             l = 0;
         }
-        let one = rs[l].holds as usize;
+        let one = usize::from(rs[l].holds);
         if left < one {
             return l;
         }
         left -= one;
         l += 1;
-        passed += 1;
     }
     l
 }
@@ -51,11 +49,9 @@ pub fn records(heads: &[u16], n: usize) -> [Record; types::MAX_INSTANCES]
     ensures { Recorded heads.now n result }
 {
     let mut rs = [Record { holds: false }; types::MAX_INSTANCES];
-    let mut l = 0;
-    while l < n {
+    for l in 0..n {
         let holds = layout::holds(heads, l);
         rs[l] = Record { holds };
-        l += 1;
     }
     rs
 }

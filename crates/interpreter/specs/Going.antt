@@ -1,5 +1,6 @@
 -- A run between two turns (01, 'Table and turns'): what the code keeps of it, what a turn makes of it, and what a passage of turns promises.
-use Rattle.std.specs.Prelude.{ℕ, ◌+◌, ◌%◌, ◌<◌, ◌≤◌, ◌≡◌, Bool, true, false, List, length, get_or, eqb, leb}
+use Rattle.std.specs.Prelude.{ℕ, ◌+◌, ◌%◌, ◌<◌, ◌≤◌, ◌≡◌, Bool, true, false, List, length, get_or, eqb, leb, Some, None}
+use Rattle.std.specs.Option.{is_some}
 use Rattle.machine.specs.Stops.{out_of_turns}
 use Rattle.layout.specs.Layout.{holds}
 use Rattle.layout.specs.State.{State, state_of}
@@ -14,11 +15,11 @@ use Rattle.interpreter.specs.Running.{Begun, Ending, Gone, Come}
 
 -- behind i turns no turn is due: the number is x
 abbrev pub rests : Machine → ℕ → Record → ℕ → Going
-rests m i a x = record { machine = m; taken = i; number = x; due = false; pick = 0; actor = a }
+rests m i a x = record { machine = m; taken = i; number = x; pick = None; actor = a }
 
 -- or one is, whose byte picks the r-th of the holders
 abbrev pub waits : Machine → ℕ → Record → ℕ → Going
-waits m i a r = record { machine = m; taken = i; number = 0; due = true; pick = r; actor = a }
+waits m i a r = record { machine = m; taken = i; number = 0; pick = Some r; actor = a }
 
 -- where nobody holds commands it has the machine's number; where no byte is left, 33
 unfoldable pub going_at : List ℕ → Machine → ℕ → Record → Going
@@ -44,19 +45,22 @@ pub record Takes (list counts es : List ℕ) (l : ℕ) (s : Going) (h c : List �
 
 -- What the turns need and promise -------------------------------------------------
 
+-- whether a turn is due
+abbrev pub is_due : Going → Bool
+is_due s = is_some s.pick
+
 -- a turn is due, and its byte picks a holder
 pub record Due (es : List ℕ) (s : Going) : Type 0 where
-  pub now : s.due ≡ true
   pub someone : 0 < s.machine.numbers.holding
   pub byte : s.taken < length es
-  pub picks : s.pick ≡ get_or es s.taken 0 % s.machine.numbers.holding
+  pub picks : s.pick ≡ Some (get_or es s.taken 0 % s.machine.numbers.holding)
 
 abbrev pub memory_of : Going → List ℕ → List ℕ → State
 memory_of s h c = state_of s.machine.numbers h c
 
--- whom the search among the records finds
-abbrev pub searched : Going → List Record → ℕ
-searched s rs = holder_in rs s.machine.numbers.count s.machine.numbers.from s.pick
+-- whom the search among the records finds, where the r-th of the holders is picked
+abbrev pub searched : Going → ℕ → List Record → ℕ
+searched s r rs = holder_in rs s.machine.numbers.count s.machine.numbers.from r
 
 -- memory is ready for it, and rs has the records of the instances
 pub record Turning (list counts es : List ℕ) (s : Going) (rs : List Record) (h c : List ℕ) : Type 0 where
@@ -73,7 +77,7 @@ pub record Went (counts list items spans es : List ℕ) (z : State) (s : Going) 
 
 -- the turns from s on have led to r, whatever schedule is left and whichever memory the run began with
 pub record Passes (list counts es : List ℕ) (s : Going) (h c : List ℕ) (r : Going) (h' c' : List ℕ) : Type 0 where
-  pub rest : r.due ≡ false
+  pub rest : is_due r ≡ false
   pub more : r.number ≡ 0 → s.taken < r.taken
   pub within : r.taken ≤ length es
   pub went : (items spans : List ℕ) (z : State) → Gone counts list items spans es z s.taken (memory_of s h c)

@@ -7,7 +7,8 @@ use engine::Machine;
 use layout::codes;
 
 // Where the moves of a machine lead: where no instance holds commands then, the schedule is at its end. Memory is free up to the machine that
-// it stands for: nothing is said of cells above a stack, nor where an instance without commands has its next one.
+// it stands for: nothing is said of cells above a stack, nor where an instance without commands has its next one. The loop is over the machine's
+// state, and counts nothing.
 pub fn settle(machine: Machine, items: &[usize], spans: &[u16], heads: &mut [u16]) -> Machine
     requires { Standing items.now spans.now heads.old machine.numbers }
     ensures { (cells : List ℕ) → Settling items.now spans.now (state_of machine.numbers heads.old cells)

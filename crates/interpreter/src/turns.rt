@@ -17,15 +17,15 @@ pub struct Ran {
     pub taken: usize,
 }
 
-// A run between two turns: its machine, the turns taken, the number that it stops with, whether a turn is due, which of the holders its
-// byte picks, and the record of the instance that acted last.
+// A run between two turns: its machine, the turns taken, the number that it stops with, which of the holders the byte of the next turn
+// picks, where a turn is due, and the record of the instance that acted last.
+// The number is 0 or a refusal's, as in the machine: `layout/specs/State.antt` defines that state with a number.
 #[derive(Clone, Copy)]
 pub struct Going {
     pub machine: Machine,
     pub taken: usize,
     pub number: u8,
-    pub due: bool,
-    pub pick: usize,
+    pub pick: Option<usize>,
     pub actor: Record,
 }
 
@@ -37,8 +37,7 @@ fn resting(machine: Machine, taken: usize, actor: Record, number: u8) -> Going
         machine,
         taken,
         number,
-        due: false,
-        pick: 0,
+        pick: None,
         actor,
     }
 }
@@ -51,15 +50,19 @@ fn going_at(machine: Machine, taken: usize, actor: Record, turns: &[u8]) -> Goin
         return resting(machine, taken, actor, machine.numbers.number);
     }
     if turns.len() <= taken {
-        return resting(machine, taken, actor, types::number::OUT_OF_TURNS);
+        return resting(
+            machine,
+            taken,
+            actor,
+            types::refusal::Refusal::OutOfTurns as u8,
+        );
     }
-    let e = turns[taken] as usize;
+    let e = usize::from(turns[taken]);
     Going {
         machine,
         taken,
         number: 0,
-        due: true,
-        pick: e % machine.numbers.holding,
+        pick: Some(e % machine.numbers.holding),
         actor,
     }
 }
@@ -104,12 +107,12 @@ fn take_turns(
 {
     let mut next = s;
     let mut known = rs;
-    while next.due {
+    while let Some(pick) = next.pick {
         let l = holder(
             &known,
             next.machine.numbers.count,
             next.machine.numbers.from,
-            next.pick,
+            pick,
         );
         next = turn(next, l, list, counts, heads, cells, turns);
         known[l] = next.actor;
@@ -117,32 +120,40 @@ fn take_turns(
     next
 }
 
+// What a run reads of a program: its commands, the parameter count of each struct, its schedule laid flat, and where the commands of each step
+// stand.
+#[derive(Clone, Copy)]
+pub struct Program<'a> {
+    pub list: &'a [u64],
+    pub counts: &'a [u8],
+    pub items: &'a [usize],
+    pub spans: &'a [u16],
+}
+
 // A run of a machine with these turn bytes. Memory and the machine's numbers are free up to the machine that they stand for with their number
 // taken out: that is the machine that the run comes to. Number and turns are the run's.
 pub fn run(
     machine: Machine,
-    list: &[u64],
-    counts: &[u8],
-    items: &[usize],
-    spans: &[u16],
+    program: &Program,
     heads: &mut [u16],
     cells: &mut [u64],
     turns: &[u8],
 ) -> Ran
-    requires { Begun counts.now list.now items.now spans.now (state_of machine.numbers heads.old cells.old) }
-    ensures { Ending counts.now list.now items.now spans.now turns.now
+    requires { Begun program.now.counts.now program.now.list.now program.now.items.now program.now.spans.now
+        (state_of machine.numbers heads.old cells.old) }
+    ensures { Ending program.now.counts.now program.now.list.now program.now.items.now program.now.spans.now turns.now
         (state_of machine.numbers heads.old cells.old) result.number result.taken
         (state_of result.machine.numbers heads.new cells.new) }
 {
     let nobody = Record { holds: false };
-    let settled = settle(machine, items, spans, heads);
+    let settled = settle(machine, program.items, program.spans, heads);
     let mut next = going_at(settled, 0, nobody, turns);
-    while next.due {
+    'passages: while next.pick.is_some() {
         let rs = records(heads, next.machine.numbers.count);
-        next = take_turns(next, rs, list, counts, heads, cells, turns);
+        next = take_turns(next, rs, program.list, program.counts, heads, cells, turns);
         if next.number == 0 {
             let still = next.machine;
-            let moved = settle(still, items, spans, heads);
+            let moved = settle(still, program.items, program.spans, heads);
             next = going_at(moved, next.taken, nobody, turns);
         }
     }

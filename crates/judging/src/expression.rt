@@ -1,5 +1,5 @@
 // What is computed of an expression from what was computed of its parts (01, numbers 6 to 8).
-ghost use Rattle.std.specs.Prelude.{◌≡◌, ◌&&◌, ◌+◌, ◌<◌, ◌^◌, max, eqb};
+ghost use Rattle.std.specs.Prelude.{◌≡◌, ◌&&◌, ◌+◌, ◌<◌, ◌^◌, eqb};
 ghost use Rattle.program.specs.Tree.{Op};
 ghost use Rattle.program.specs.Reader.{form, Form.form_op};
 ghost use Rattle.judge.specs.Facts.{pushed, negated, takes, gives, combined, travelled, no_args, appended, constructed};
@@ -7,16 +7,7 @@ ghost use Rattle.judging.specs.CodeOps.{sort_by};
 
 use crate::fault;
 use judge::{Facts, Judged};
-
-// The larger of two.
-pub fn higher(a: usize, b: usize) -> usize
-    ensures { result ≡ max a b }
-{
-    if a < b {
-        return b;
-    }
-    a
-}
+use program::form;
 
 // One push of this type.
 pub fn pushed(t: u8) -> Facts
@@ -42,6 +33,9 @@ pub fn negated(f: Facts) -> Facts
     }
 }
 
+// The first operator that compares by order; before it stand = and its opposite.
+const ORDER: u8 = form::EQ + 2;
+
 // Whether the operator of a byte takes values of types t and u.
 fn takes(b: u8, t: u8, u: u8) -> bool
     ensures { result ≡ (eqb t u && takes (sort_by b) t) }
@@ -49,10 +43,10 @@ fn takes(b: u8, t: u8, u: u8) -> bool
     if t != u {
         return false;
     }
-    if b < 34 {
+    if b < ORDER {
         return true;
     }
-    if b < 43 {
+    if b < form::AND {
         return t < types::BOOL;
     }
     t == types::BOOL
@@ -62,10 +56,7 @@ fn takes(b: u8, t: u8, u: u8) -> bool
 fn gives(b: u8, t: u8) -> u8
     ensures { result ≡ gives (sort_by b) t }
 {
-    if b < 38 {
-        return types::BOOL;
-    }
-    if b < 43 {
+    if form::MUL <= b && b < form::AND {
         return t;
     }
     types::BOOL
@@ -81,7 +72,7 @@ pub fn combined(b: u8, f: Facts, g: Facts) -> Facts
     let right = takes(b, f.typ, g.typ);
     Facts {
         size: f.size + g.size + 1,
-        peak: higher(f.peak, second),
+        peak: f.peak.max(second),
         fault: fault::demand(fault::worst(f.fault, g.fault), right),
         typ: gives(b, f.typ),
     }
@@ -92,7 +83,7 @@ pub fn travelled(n: u8, j: Judged) -> Facts
     ensures { result ≡ travelled n j }
 {
     Facts {
-        size: n as usize + 1,
+        size: usize::from(n) + 1,
         peak: 1,
         fault: j.fault,
         typ: j.typ,
@@ -118,7 +109,7 @@ pub fn appended(x: u8, t: u8, a: Facts, f: Facts) -> Facts
     let own = fault::demand(f.fault, f.typ == t);
     Facts {
         size: a.size + f.size,
-        peak: higher(a.peak, x as usize + f.peak),
+        peak: a.peak.max(usize::from(x) + f.peak),
         fault: fault::worst(a.fault, own),
         typ: 0,
     }
@@ -131,7 +122,7 @@ pub fn constructed(k: u8, f: Facts) -> Facts
 {
     Facts {
         size: f.size + 1,
-        peak: higher(1, f.peak),
+        peak: 1usize.max(f.peak),
         fault: f.fault,
         typ: types::STRUCT + k,
     }

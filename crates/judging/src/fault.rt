@@ -2,7 +2,7 @@
 ghost use Rattle.std.specs.Prelude.{◌≡◌};
 ghost use Rattle.judge.specs.Facts.{worst, demand, named};
 
-use types::number;
+use types::refusal::Refusal;
 
 // The lower number of two, where there is one.
 pub fn worst(a: u8, b: u8) -> u8
@@ -14,23 +14,17 @@ pub fn worst(a: u8, b: u8) -> u8
     if b == 0 {
         return a;
     }
-    if a < b {
-        return a;
-    }
-    b
+    a.min(b)
 }
 
 // 8 where a test of types fails and nothing was wrong before.
 pub fn demand(fault: u8, right: bool) -> u8
     ensures { result ≡ demand fault right }
 {
-    if fault != 0 {
+    if fault != 0 || right {
         return fault;
     }
-    if right {
-        return 0;
-    }
-    number::WRONG_TYPES
+    u8::from(Refusal::WrongTypes)
 }
 
 // 7 where a test of names fails.
@@ -40,5 +34,5 @@ pub fn named(right: bool) -> u8
     if right {
         return 0;
     }
-    number::WRONG_NAMES
+    u8::from(Refusal::WrongNames)
 }

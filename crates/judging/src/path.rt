@@ -6,7 +6,7 @@ ghost use Rattle.judge.specs.Facts.{param, lead_by, start_of};
 
 use crate::digits;
 use judge::Judged;
-use types::number;
+use types::refusal::Refusal;
 
 // The byte of the first local.
 pub const FIRST_LOCAL: u8 = types::FIRST_LOCAL as u8;
@@ -15,10 +15,7 @@ pub const FIRST_LOCAL: u8 = types::FIRST_LOCAL as u8;
 pub fn look(table: &[u8], i: usize) -> u8
     ensures { result ≡ get_or table.now i 0 }
 {
-    if i < table.len() {
-        return table[i];
-    }
-    0
+    table.get(i).copied().unwrap_or(0)
 }
 
 // The type of parameter x of the struct k.
@@ -50,11 +47,12 @@ pub fn lead_by(ar: &[u8], types: &[u8], j: Judged, x: u8) -> Judged
     }
     if j.typ < types::STRUCT {
         return Judged {
-            fault: number::WRONG_TYPES,
+            fault: u8::from(Refusal::WrongTypes),
             typ: 0,
         };
     }
-    param(ar, types, number::WRONG_TYPES, j.typ - types::STRUCT, x)
+    let k = j.typ - types::STRUCT;
+    param(ar, types, u8::from(Refusal::WrongTypes), k, x)
 }
 
 // The local x: its digit is 1 more than its type while it lives.
@@ -65,7 +63,7 @@ pub fn local(live: u64, x: u8) -> Judged
     let d = digits::digit(live, x);
     if d == 0 {
         return Judged {
-            fault: number::WRONG_NAMES,
+            fault: u8::from(Refusal::WrongNames),
             typ: 0,
         };
     }
@@ -81,7 +79,7 @@ pub fn start(ar: &[u8], types: &[u8], own: u8, live: u64, b: u8) -> Judged
     ensures { result ≡ start_of ar.now types.now own live (var_of b) }
 {
     if b < FIRST_LOCAL {
-        return param(ar, types, number::WRONG_NAMES, own, b);
+        return param(ar, types, u8::from(Refusal::WrongNames), own, b);
     }
     local(live, b - FIRST_LOCAL)
 }

@@ -2,7 +2,7 @@
 ghost use Rattle.std.specs.Prelude.{◌≡◌, ◌+◌, ◌<◌, ◌^◌};
 ghost use Rattle.judge.specs.Facts.{nothing, branched, declared, updated, followed};
 
-use crate::{digits, expression, fault};
+use crate::{digits, fault};
 use judge::{Done, Facts, Judged, Scope};
 
 // No statement.
@@ -31,7 +31,7 @@ pub fn branched(c: Scope, f: Facts, b: Done) -> Done
     };
     Done {
         size: f.size + b.size + 1,
-        height: expression::higher(f.peak, b.height),
+        height: f.peak.max(b.height),
         growth: b.growth,
         fault: fault::worst(first, b.fault),
         after,
@@ -51,7 +51,7 @@ pub fn declared(c: Scope, t: u8, x: u8, f: Facts) -> Done
     };
     Done {
         size: f.size + 2,
-        height: expression::higher(f.peak, 2),
+        height: f.peak.max(2),
         growth: 0,
         fault: fault::worst(first, fault::named(new)),
         after,
@@ -65,8 +65,8 @@ pub fn updated(c: Scope, n: u8, j: Judged, f: Facts) -> Done
 {
     let first = fault::worst(j.fault, f.fault);
     Done {
-        size: f.size + n as usize + 1,
-        height: expression::higher(f.peak, 2),
+        size: f.size + usize::from(n) + 1,
+        height: f.peak.max(2),
         growth: 0,
         fault: fault::demand(first, j.typ == f.typ),
         after: c,
@@ -81,7 +81,7 @@ pub fn followed(a: Done, b: Done) -> Done
     let after = b.after;
     Done {
         size: a.size + b.size,
-        height: expression::higher(a.height, a.growth + b.height),
+        height: a.height.max(a.growth + b.height),
         growth: a.growth + b.growth,
         fault: fault::worst(a.fault, b.fault),
         after,

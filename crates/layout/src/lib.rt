@@ -11,7 +11,8 @@ ghost use Rattle.layout.specs.Layout.{head_size, head_end, next_of, end_of, head
 ghost use Rattle.layout.specs.State.{fresh, due_in};
 
 // The numbers of an instance in `heads`, two bytes each: its struct, the height of its stack, the place of its next command, the end of its
-// commands; its owner (02, section 12) and its mark of an iterator (02, section 10), which are 0 from its beginning on.
+// commands; its owner (02, section 12) and its mark of an iterator (02, section 10), which are 0 from its beginning on. They lie flat, as
+// `specs/Layout.antt` has them: `head`, `new_head`, `going` and `begun` are of one list of numbers.
 pub const HEAD_SIZE: usize = 6;
 
 pub const STRUCT: usize = 0;
@@ -36,7 +37,7 @@ pub const CELLS: usize = ROW_SIZE * types::MAX_INSTANCES;
 
 // The machine's numbers: instances so far, the place in the schedule, open Fixes, their stability entries as bits with the top one lowest,
 // 0 or the number of a refusal, how many instances hold commands (02, 'Holders kept as a number'), and the label from which turns are
-// counted on, the one after that which acted last (02, 'Turns that go round').
+// counted on, the one after that which acted last (02, 'Turns that go round'). The refusal is a number, since `State` in `specs/State.antt` has it.
 #[derive(Clone, Copy)]
 pub struct Numbers {
     pub count: usize,

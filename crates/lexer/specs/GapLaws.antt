@@ -27,6 +27,10 @@ module _ {kinds : List ℕ} where
   pub gap_none : {i : ℕ} → i ≤ length kinds → Gap kinds i i
   gap_none h = record { behind = omega arith; inner = h; zeros = λ p a b. absurd (omega (arith, a, b)) }
 
+  -- the same two places, as other sums
+  pub gap_as : {i j k l : ℕ} → Gap kinds i j → i ≡ k → j ≡ l → Gap kinds k l
+  gap_as g e f = record { behind = omega (arith, g.behind, e, f); inner = omega (arith, g.inner, f); zeros = λ p a b. g.zeros p (omega (arith, a, e)) (omega (arith, b, f)) }
+
   pub gap_one : {i : ℕ} → i < length kinds → get_or kinds i 0 ≡ 0 → Gap kinds i (i + 1)
   gap_one {i} h e =
       record {

@@ -1,12 +1,14 @@
 -- Laws of the loops over bytes, one byte after the other: a run, two lists of bytes, the first close.
 use Prim.Native.Nat.{ℕ, zero, suc, ◌+◌, ◌-◌, ◌≤◌, ◌<◌}
-use Rattle.std.proofs.Common.{arith, ◌∙◌, length-drop, get_or-drop}
-use Rattle.std.specs.Prelude.{◌≡◌, Bool, ◌&&◌, List, [], ◌∷◌, get_or, drop}
+use Rattle.std.proofs.Common.{arith, add-one, ◌∙◌, length-drop, get_or-drop, eqb-true}
+use Rattle.std.specs.Prelude.{◌≡◌, Bool, ◌&&◌, List, [], ◌∷◌, get_or, drop, cond}
+use Rattle.std.specs.List.{prefix_len}
 use Rattle.std.proofs.Math.Path.{refl, sym, ap}
 use Rattle.std.proofs.Math.Bool.{true, false}
 use Rattle.std.proofs.Math.ListN.{length, drop_of_length-le}
 use Rattle.std.proofs.Math.Dec.{eqb}
 use borrow.Author.Tests.{eq-eqb, ne_eqb}
+use lib.Pointwise.{pointwise}
 use Rattle.types.proofs.Laws.ListLaws.{drop_next, eqb_sym}
 use Rattle.tokens.specs.Lexing.{close}
 use Rattle.tokens.specs.Tokens.{same}
@@ -21,6 +23,16 @@ inside [] (suc i) h = absurd (omega arith)
 inside (x ∷ s) (suc i) h = let r = inside s i h in omega arith
 
 -- Runs -------------------------------------------------------------------------------------
+
+-- std's count of a run
+pub span_prefix : (p : ℕ → Bool) (s : List ℕ) → prefix_len p s ≡ span p s
+unfolding span
+span_prefix p [] = refl
+span_prefix p (b ∷ s) = go (p b) (span_prefix p s)
+  where
+    go : (t : Bool) → prefix_len p s ≡ span p s → cond t (1 + prefix_len p s) 0 ≡ elim t [ true ↦ suc (span p s) | false ↦ 0 ]
+    go true e = omega (arith, e)
+    go false e = refl
 
 -- the run of p from at on goes on from i
 pub record Runs (p : ℕ → Bool) (s : List ℕ) (at i : ℕ) : Type 0 where
@@ -58,6 +70,14 @@ same_lengths [] [] n = absurd (n refl)
 same_lengths [] (b ∷ t) n = refl
 same_lengths (a ∷ s) [] n = refl
 same_lengths (a ∷ s) (b ∷ t) n = rw (← same_lengths s t (λ e. n (ap suc e))) (sym (and_false (eqb a b)))
+
+-- as `==` compares them
+pub same_bytes : (s t : List ℕ) → pointwise eqb s t ≡ same s t
+unfolding same
+same_bytes [] [] = refl
+same_bytes [] (b ∷ t) = refl
+same_bytes (a ∷ s) [] = refl
+same_bytes (a ∷ s) (b ∷ t) = ap (λ x. eqb a b && x) (same_bytes s t)
 
 -- the same up to i
 pub record Agree (s t : List ℕ) (i : ℕ) : Type 0 where
@@ -116,6 +136,21 @@ module _ (s : List ℕ) (i : ℕ) (l : i < length s) where
       let not_both = ap (λ t. eqb star (get_or s i 0) && t) (ne_eqb (get_or s (i + 1) 0) slash n) in
       sym (close_at ∙ not_both ∙ and_false (eqb star (get_or s i 0)))
 
+-- a close at a place, by its two bytes
+abbrev pub Closes : List ℕ → ℕ → Type 0
+Closes s i = (get_or s i 0 ≡ star) × (get_or s (i + 1) 0 ≡ slash)
+
+close_here : (s : List ℕ) (i : ℕ) → i < length s → Closes s i → begins close (drop i s) ≡ true
+close_here s i l (a, b) = close_at s i l ∙ rw (a, b) refl
+
+close_not : (s : List ℕ) (i : ℕ) → i < length s → (Closes s i → ⊥) → begins close (drop i s) ≡ false
+close_not s i l n = close_at s i l ∙ go (eqb star (get_or s i 0)) refl (eqb (get_or s (i + 1) 0) slash) refl
+  where
+    go : (a : Bool) → eqb star (get_or s i 0) ≡ a → (b : Bool) → eqb (get_or s (i + 1) 0) slash ≡ b → (a && b) ≡ false
+    go false e b f = refl
+    go true e false f = refl
+    go true e true f = absurd (n (sym (eqb-true star (get_or s i 0) e), eqb-true (get_or s (i + 1) 0) slash f))
+
 -- one byte closes nothing
 short_open : (u : List ℕ) → length u ≤ 1 → closing u ≡ 0
 unfolding closing begins one_more
@@ -156,6 +191,19 @@ module _ {s : List ℕ} {at i : ℕ} (r : Opened s at i) where
             none = λ f. r.none (goes_on ∙ rw f refl);
             some = λ n f. r.some (suc n) (goes_on ∙ rw f refl) ∙ (let h = r.behind in omega arith);
           }
+
+opened_to : (s : List ℕ) (i : ℕ) → i < length s → ((k : ℕ) → k < i → Closes s k → ⊥) → Opened s 0 i
+opened_to s zero l n = opened_start s 0 (omega arith)
+opened_to s (suc i) l n =
+    rw add-one at (opened_on (opened_to s i (omega arith) (λ k h. n k (omega (arith, h)))) (omega arith) (close_not s i (omega arith) (n i (omega arith))))
+
+pub closing_first : (s : List ℕ) (i : ℕ) → i + 1 < length s → Closes s i → ((k : ℕ) → k < i → Closes s k → ⊥) → i + 2 ≡ closing s
+closing_first s i l c n =
+    let h : (i - 0) + 2 ≡ closing s = opened_close (opened_to s i (omega arith) n) (omega arith) (close_here s i (omega arith) c) in omega (arith, h)
+
+pub closing_none : (s : List ℕ) → ((k : ℕ) → k + 1 < length s → Closes s k → ⊥) → 0 ≡ closing s
+closing_none [] n = sym (short_open [] (omega arith))
+closing_none (b ∷ s) n = opened_out (opened_to (b ∷ s) (length s) (omega arith) (λ k h. n k (omega (arith, h)))) (omega arith)
 
 pub closing_within : (s : List ℕ) → closing s ≤ length s
 unfolding closing one_more begins

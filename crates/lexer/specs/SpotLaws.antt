@@ -2,7 +2,7 @@
 use Prim.Native.Nat.{ℕ, zero, suc, ◌+◌, ◌-◌, ◌≤◌, ◌<◌}
 use native.Mathlib.Omega.{arith}
 use Rattle.std.proofs.Common.{add-one, sym, ◌∙◌, get_or-drop, eqb-true, eq-eqb, ne_eqb}
-use Rattle.std.specs.Prelude.{◌≡◌, Bool, true, false, ◌&&◌, ◌||◌, length, get_or}
+use Rattle.std.specs.Prelude.{◌≡◌, Bool, true, false, ◌&&◌, ◌||◌, length, get_or, Option, Some, None, option_map}
 use Rattle.std.proofs.Math.Path.{refl, ap}
 use mathlib.Core.List.{List, [], ◌∷◌}
 use Rattle.std.proofs.Math.ListN.{take, drop}
@@ -20,12 +20,11 @@ use Rattle.tokens.specs.TokenNumbers.{sign_number}
 use Rattle.tokens.specs.Kinds.{sign_kind, op_kind, kind}
 use Rattle.tokens.specs.Marking.{spot_of, signs_digit, followed}
 use Rattle.lexer.specs.RunLaws.{inside}
-use Rattle.tokens.specs.declared.Spot.{Spot}
-use Rattle.tokens.specs.declared.Spot.TheVariants.{Marked, Stray}
+use Rattle.tokens.specs.Spot.{Spot}
 use Rattle.tokens.specs.Unfold.{sign_scan}
 use Rattle.tokens.specs.Bytes.{bang_byte, percent_byte, ampersand_byte, lpar_byte, rpar_byte, star, plus_byte, comma_byte, minus_byte, dot_byte}
 use Rattle.tokens.specs.Bytes.{slash, colon_byte, semicolon_byte, less_byte, equals_byte, more_byte, lbrace_byte, bar_byte, rbrace_byte}
-use Rattle.tokens.specs.KindNames.{no_kind, colon_kind, assign_kind, bang_kind, ne_kind, le_kind, ge_kind, lt_kind, gt_kind, and_kind, or_kind}
+use Rattle.tokens.specs.KindNames.{colon_kind, assign_kind, bang_kind, ne_kind, le_kind, ge_kind, lt_kind, gt_kind, and_kind, or_kind}
 use Rattle.tokens.specs.KindNames.{int_kind, nat_kind}
 
 -- the byte behind a place
@@ -52,7 +51,7 @@ module _ (s : List ℕ) (at : ℕ) where
   front_taken e l h = rw (drop_next s at l, let m : e - at ≡ suc (e - (at + 1)) = omega arith in m) refl
 
   pub name_spot : (e k : ℕ) → at < length s → e ≡ at + 1 + span name_byte rest → k ≡ kind (named (take (e - at) (drop at s)))
-      → Marked k (e - (at + 1)) ≡ spot_of (front_of letters b rest)
+      → Some (k, e - (at + 1)) ≡ spot_of (front_of letters b rest)
   unfolding spot_of front_of
   name_spot e k l h f =
       let m : e - (at + 1) ≡ span name_byte rest = omega arith in
@@ -62,7 +61,7 @@ module _ (s : List ℕ) (at : ℕ) where
     last_byte : get_or rest (span digit rest) 0 ≡ get_or s e 0
     last_byte = behind_byte s at (span digit rest) ∙ ap (λ n. get_or s n 0) (sym h)
 
-    pub nat_spot : get_or s e 0 ≡ nat_end_byte → Marked nat_kind (e - at) ≡ spot_of (front_of digits b rest)
+    pub nat_spot : get_or s e 0 ≡ nat_end_byte → Some (nat_kind, e - at) ≡ spot_of (front_of digits b rest)
     unfolding spot_of front_of nat_front kind
     nat_spot f =
         let m : e - at ≡ suc (span digit rest) = omega arith in
@@ -70,7 +69,7 @@ module _ (s : List ℕ) (at : ℕ) where
         rw (eq-eqb (get_or rest (span digit rest) 0) nat_end_byte (last_byte ∙ f), nat_front) refl in
         rw m (ap spot_of (sym g))
 
-    pub nat_stray : (get_or s e 0 ≡ nat_end_byte → ⊥) → Stray ≡ spot_of (front_of digits b rest)
+    pub nat_stray : (get_or s e 0 ≡ nat_end_byte → ⊥) → None ≡ spot_of (front_of digits b rest)
     unfolding spot_of front_of nat_front
     nat_stray f =
         let g : front_of digits b rest ≡ nothing = rw (ne_eqb (get_or rest (span digit rest) 0) nat_end_byte (λ h. f (sym last_byte ∙ h)), nat_front) refl in
@@ -102,7 +101,7 @@ module _ (s : List ℕ) (at : ℕ) where
       g ∙ ap spot_of (sym h)
 
   module _ (no : (eqb b slash && eqb c star) ≡ false) where
-    pub int_spot : (e : ℕ) → signs_digit b c ≡ true → e ≡ at + 1 + span digit rest → Marked int_kind (e - (at + 1)) ≡ spot_of (other_front b rest)
+    pub int_spot : (e : ℕ) → signs_digit b c ≡ true → e ≡ at + 1 + span digit rest → Some (int_kind, e - (at + 1)) ≡ spot_of (other_front b rest)
     unfolding other_front spot_of kind
     int_spot e f h =
         let m : e - (at + 1) ≡ span digit rest = omega arith in
@@ -142,7 +141,7 @@ module _ (s : List ℕ) (at : ℕ) where
     unfolding class
     digit_spot e f g = g ∙ rw (front_here, e, f, class) refl
 
-    pub blank_spot : letter b ≡ false → digit b ≡ false → blank b ≡ true → Marked 0 0 ≡ spot_of (front (drop at s))
+    pub blank_spot : letter b ≡ false → digit b ≡ false → blank b ≡ true → Some (0, 0) ≡ spot_of (front (drop at s))
     unfolding class front_of spot_of
     blank_spot e f h = rw (front_here, e, f, h, class) refl
 
@@ -151,11 +150,11 @@ module _ (s : List ℕ) (at : ℕ) where
     other_spot e f h g = g ∙ rw (front_here, e, f, h, class) refl
 
 -- a place inside what was taken before
-pub comment_none : (n : ℕ) → n ≡ 0 → Stray ≡ spot_of (comment_front n)
+pub comment_none : (n : ℕ) → n ≡ 0 → None ≡ spot_of (comment_front n)
 unfolding comment_front spot_of
 comment_none n e = rw e refl
 
-pub comment_some : (n : ℕ) → (n ≡ 0 → ⊥) → Marked 0 (n + 1) ≡ spot_of (comment_front n)
+pub comment_some : (n : ℕ) → (n ≡ 0 → ⊥) → Some (0, n + 1) ≡ spot_of (comment_front n)
 unfolding comment_front spot_of
 comment_some zero e = absurd (e refl)
 comment_some (suc n) e = rw add-one refl
@@ -183,7 +182,7 @@ unfolding find_sign
 none_of [] x h = refl
 none_of (t ∷ ts) x h = rw (h.0, find_sign) (none_of ts x h.1)
 
-pub sign_none : (b c : ℕ) → Misses firsts b → Stray ≡ spot_of (find_sign signs (b ∷ c ∷ []))
+pub sign_none : (b c : ℕ) → Misses firsts b → None ≡ spot_of (find_sign signs (b ∷ c ∷ []))
 unfolding signs doubles singles begins spelling sign_spelling op_spelling spot_of
 sign_none b c (
   (
@@ -273,7 +272,7 @@ sign_none b c (
     off k u o = rw (ne_eqb k b (λ e. o (sym e))) refl
 
 -- a byte and the one behind it: two tests of one fact
-by_second : (c d two one : ℕ) (f : Bool → Spot) → f true ≡ Marked two 1 → f false ≡ elim (eqb one 0) [ true ↦ Stray | false ↦ Marked one 0 ]
+by_second : (c d two : ℕ) (one : Option ℕ) (f : Bool → Spot) → f true ≡ Some (two, 1) → f false ≡ option_map (λ k. (k, 0)) one
     → followed c d two one ≡ f (eqb d c)
 unfolding followed
 by_second c d two one f p q = go (eqb d c) refl
@@ -286,29 +285,29 @@ either : Front → Front → Bool → Spot
 either x y t = spot_of (elim (t && true) [ true ↦ x | false ↦ y ])
 
 module _ (c : ℕ) where
-  pub bang_spot : followed c equals_byte ne_kind bang_kind ≡ spot_of (find_sign signs (bang_byte ∷ c ∷ []))
+  pub bang_spot : followed c equals_byte ne_kind (Some bang_kind) ≡ spot_of (find_sign signs (bang_byte ∷ c ∷ []))
   unfolding either sign_scan spot_of kind sign_kind sign_number op_kind
-  bang_spot = by_second c equals_byte ne_kind bang_kind (either (token (op op_ne) 1) (token (sign bang) 0)) refl refl
+  bang_spot = by_second c equals_byte ne_kind (Some bang_kind) (either (token (op op_ne) 1) (token (sign bang) 0)) refl refl
 
-  pub and_spot : followed c ampersand_byte and_kind no_kind ≡ spot_of (find_sign signs (ampersand_byte ∷ c ∷ []))
+  pub and_spot : followed c ampersand_byte and_kind None ≡ spot_of (find_sign signs (ampersand_byte ∷ c ∷ []))
   unfolding either sign_scan spot_of kind sign_kind sign_number op_kind
-  and_spot = by_second c ampersand_byte and_kind no_kind (either (token (op op_and) 1) nothing) refl refl
+  and_spot = by_second c ampersand_byte and_kind None (either (token (op op_and) 1) nothing) refl refl
 
-  pub colon_spot : followed c equals_byte assign_kind colon_kind ≡ spot_of (find_sign signs (colon_byte ∷ c ∷ []))
+  pub colon_spot : followed c equals_byte assign_kind (Some colon_kind) ≡ spot_of (find_sign signs (colon_byte ∷ c ∷ []))
   unfolding either sign_scan spot_of kind sign_kind sign_number op_kind
-  colon_spot = by_second c equals_byte assign_kind colon_kind (either (token (sign assign) 1) (token (sign colon) 0)) refl refl
+  colon_spot = by_second c equals_byte assign_kind (Some colon_kind) (either (token (sign assign) 1) (token (sign colon) 0)) refl refl
 
-  pub less_spot : followed c equals_byte le_kind lt_kind ≡ spot_of (find_sign signs (less_byte ∷ c ∷ []))
+  pub less_spot : followed c equals_byte le_kind (Some lt_kind) ≡ spot_of (find_sign signs (less_byte ∷ c ∷ []))
   unfolding either sign_scan spot_of kind sign_kind sign_number op_kind
-  less_spot = by_second c equals_byte le_kind lt_kind (either (token (op op_le) 1) (token (op op_lt) 0)) refl refl
+  less_spot = by_second c equals_byte le_kind (Some lt_kind) (either (token (op op_le) 1) (token (op op_lt) 0)) refl refl
 
-  pub more_spot : followed c equals_byte ge_kind gt_kind ≡ spot_of (find_sign signs (more_byte ∷ c ∷ []))
+  pub more_spot : followed c equals_byte ge_kind (Some gt_kind) ≡ spot_of (find_sign signs (more_byte ∷ c ∷ []))
   unfolding either sign_scan spot_of kind sign_kind sign_number op_kind
-  more_spot = by_second c equals_byte ge_kind gt_kind (either (token (op op_ge) 1) (token (op op_gt) 0)) refl refl
+  more_spot = by_second c equals_byte ge_kind (Some gt_kind) (either (token (op op_ge) 1) (token (op op_gt) 0)) refl refl
 
-  pub or_spot : followed c bar_byte or_kind no_kind ≡ spot_of (find_sign signs (bar_byte ∷ c ∷ []))
+  pub or_spot : followed c bar_byte or_kind None ≡ spot_of (find_sign signs (bar_byte ∷ c ∷ []))
   unfolding either sign_scan spot_of kind sign_kind sign_number op_kind
-  or_spot = by_second c bar_byte or_kind no_kind (either (token (op op_or) 1) nothing) refl refl
+  or_spot = by_second c bar_byte or_kind None (either (token (op op_or) 1) nothing) refl refl
 
 -- what opens a comment has a byte behind it
 pub opens_inside : (s : List ℕ) (i : ℕ) (b : ℕ) → (eqb b slash && eqb (get_or s i 0) star) ≡ true → i < length s

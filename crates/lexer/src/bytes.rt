@@ -1,169 +1,97 @@
 // Classes of bytes, runs of them, and the end of a comment.
-ghost use Rattle.std.specs.Prelude.{◌≡◌, ◌&&◌, ◌+◌, ◌≤◌, ◌<◌, length, get_or, drop, eqb};
+ghost use Rattle.std.specs.Prelude.{◌≡◌, ◌&&◌, ◌+◌, ◌≤◌, ◌<◌, ℕ, None, length, get_or, eqb, IfSome, unwrap_or};
+ghost use Rattle.std.specs.List.{prefix_len};
 ghost use Rattle.tokens.specs.Tokens.{between, letter, digit, name_byte, blank};
-ghost use Rattle.tokens.specs.Lexing.{close};
-ghost use Rattle.tokens.specs.Scanning.{span, begins, closing};
-ghost use Rattle.tokens.specs.Marking.{signs_digit, run_byte};
+ghost use Rattle.tokens.specs.Scanning.{closing};
+ghost use Rattle.tokens.specs.Marking.{signs_digit};
 ghost use Rattle.tokens.specs.Bytes.{star, slash};
+ghost use Rattle.lexer.specs.RunLaws.{Closes};
 
-const SLASH: u8 = b'/';
+// What closes a comment.
+const CLOSE: [u8; 2] = *b"*/";
 
-const STAR: u8 = b'*';
-
-const PLUS: u8 = b'+';
-
-const MINUS: u8 = b'-';
-
-const UNDERSCORE: u8 = b'_';
-
-// The byte at a place, 0 behind the last.
+// The byte at a place, 0 after the last.
 pub fn byte(text: &[u8], i: usize) -> u8
     ensures { result ≡ get_or text.now i 0 }
 {
-    if i < text.len() { text[i] } else { 0 }
+    text.get(i).copied().unwrap_or(0)
 }
 
 pub fn between(lo: u8, hi: u8, b: u8) -> bool
     ensures { result ≡ between lo hi b }
 {
-    if b < lo {
-        return false;
-    }
-    b <= hi
+    (lo..=hi).contains(&b)
 }
 
 pub(crate) fn is_letter(b: u8) -> bool
     ensures { result ≡ letter b }
 {
-    if between(b'A', b'Z', b) {
-        return true;
-    }
-    between(b'a', b'z', b)
+    b.is_ascii_alphabetic()
 }
 
 pub fn is_digit(b: u8) -> bool
     ensures { result ≡ digit b }
 {
-    between(b'0', b'9', b)
+    b.is_ascii_digit()
 }
 
 pub fn is_name_byte(b: u8) -> bool
     ensures { result ≡ name_byte b }
 {
-    if is_letter(b) {
-        return true;
-    }
-    if is_digit(b) {
-        return true;
-    }
-    b == UNDERSCORE
+    b.is_ascii_alphanumeric() || b == b'_'
 }
 
 pub(crate) fn is_blank(b: u8) -> bool
     ensures { result ≡ blank b }
 {
-    if b == b' ' {
-        return true;
-    }
-    if b == b'\t' {
-        return true;
-    }
-    if b == b'\n' {
-        return true;
-    }
-    b == b'\r'
+    matches!(b, b' ' | b'\t' | b'\n' | b'\r')
 }
 
 // Whether two bytes open a comment; whether they are a sign and a digit.
 pub(crate) fn opens(b: u8, c: u8) -> bool
     ensures { result ≡ (eqb b slash && eqb c star) }
 {
-    if b == SLASH {
-        return c == STAR;
-    }
-    false
+    b == b'/' && c == b'*'
 }
 
 pub(crate) fn signed(b: u8, c: u8) -> bool
     ensures { result ≡ signs_digit b c }
 {
-    if b == PLUS {
-        return is_digit(c);
-    }
-    if b == MINUS {
-        return is_digit(c);
-    }
-    false
+    (b == b'+' || b == b'-') && is_digit(c)
 }
 
-// Whether a run goes on with a byte: of name bytes, or else of digits.
-fn goes_on(names: bool, b: u8) -> bool
-    ensures { result ≡ run_byte names b }
+// How many name bytes stand in front.
+pub(crate) fn names(text: &[u8]) -> usize
+    ensures { result ≡ prefix_len name_byte text.now }
 {
-    if names {
-        return is_name_byte(b);
-    }
-    is_digit(b)
+    text.iter().take_while(|b| is_name_byte(**b)).count()
 }
 
-// The place behind a run from a place on.
-fn run_end(text: &[u8], at: usize, names: bool) -> usize
-    requires { at ≤ length text.now }
-    ensures value { result ≡ at + span (run_byte names) (drop at text.now) }
-    ensures upper_bound { result ≤ length text.now }
+// How many digits stand in front.
+pub(crate) fn digits(text: &[u8]) -> usize
+    ensures { result ≡ prefix_len digit text.now }
 {
-    let mut i = at;
-    while i < text.len() {
-        if goes_on(names, text[i]) {
-            i += 1;
-        } else {
-            return i;
+    text.iter().take_while(|b| is_digit(**b)).count()
+}
+
+// The place of the first close.
+fn close_place(text: &[u8]) -> Option<usize>
+    ensures some { IfSome result (λ i. (i + 1 < length text.now) × (Closes text.now i) × ((k : ℕ) → k < i → Closes text.now k → ⊥)) }
+    ensures none { result ≡ None → (k : ℕ) → k + 1 < length text.now → Closes text.now k → ⊥ }
+{
+    // Windows of two bytes take twice as long over a long comment.
+    for i in 1..text.len() {
+        if text[i] == CLOSE[1] && text[i - 1] == CLOSE[0] {
+            return Some(i - 1);
         }
     }
-    i
+    None
 }
 
-// The place behind the name bytes.
-pub(crate) fn name_end(text: &[u8], at: usize) -> usize
-    requires { at ≤ length text.now }
-    ensures value { result ≡ at + span name_byte (drop at text.now) }
-    ensures upper_bound { result ≤ length text.now }
+// The bytes up to the first close, and with it.
+pub(crate) fn closing(text: &[u8]) -> Option<usize>
+    ensures value { unwrap_or result 0 ≡ closing text.now }
+    ensures some { IfSome result (λ n. (0 < n) × (n ≤ length text.now)) }
 {
-    run_end(text, at, true)
-}
-
-// The place behind the digits.
-pub(crate) fn digits_end(text: &[u8], at: usize) -> usize
-    requires { at ≤ length text.now }
-    ensures value { result ≡ at + span digit (drop at text.now) }
-    ensures upper_bound { result ≤ length text.now }
-{
-    run_end(text, at, false)
-}
-
-// Whether a comment closes at a place with one behind it.
-fn closes(text: &[u8], at: usize) -> bool
-    requires { at + 1 < length text.now }
-    ensures { result ≡ begins close (drop at text.now) }
-{
-    if text[at + 1] == SLASH {
-        return text[at] == STAR;
-    }
-    false
-}
-
-// The bytes up to the first close from a place on, and with it; 0 where there is none. The last byte of a text closes nothing by itself.
-pub(crate) fn closing(text: &[u8], at: usize) -> usize
-    requires { (0 < at) × (at ≤ length text.now) }
-    ensures { result ≡ closing (drop at text.now) }
-{
-    let last = text.len() - 1;
-    let mut i = at;
-    while i < last {
-        if closes(text, i) {
-            return i - at + 2;
-        }
-        i += 1;
-    }
-    0
+    Some(close_place(text)? + CLOSE.len())
 }

@@ -22,19 +22,19 @@ fn eight(kinds: &[u8], at: usize) -> bool
     four(kinds, at) | four(kinds, at + 4) == 0
 }
 
-// From a place on while no token begins in eight.
+// From a place on while no token begins in eight. Place by place, a comment of 52 KB takes four times as long.
 fn eights(kinds: &[u8], from: usize) -> usize
     requires { from ≤ length kinds.now }
     ensures { Gap kinds.now from result }
 {
-    let mut i = from;
-    while MANY <= kinds.len() - i {
-        if !eight(kinds, i) {
-            return i;
+    let blocks = (kinds.len() - from) / MANY;
+    for block in 0..blocks {
+        let at = from + block * MANY;
+        if !eight(kinds, at) {
+            return at;
         }
-        i += MANY;
     }
-    i
+    from + blocks * MANY
 }
 
 // The first place from one on at which a token begins, or the end of some.
@@ -43,14 +43,12 @@ fn within(kinds: &[u8], from: usize, end: usize) -> usize
     ensures gap { (Gap kinds.now from result) × (result ≤ end) }
     ensures token { result < end → Token kinds.now result }
 {
-    let mut i = from;
-    while i < end {
+    for i in from..end {
         if kinds[i] != 0 {
             return i;
         }
-        i += 1;
     }
-    i
+    end
 }
 
 // The first place from one on at which a token begins, or the end: a few places one by one, then by eights.
@@ -80,12 +78,11 @@ pub fn next(kinds: &[u8], from: usize) -> usize
     requires { from ≤ length kinds.now }
     ensures { Gap kinds.now from result × Token kinds.now result }
 {
-    if from < kinds.len() {
-        if kinds[from] == 0 {
-            return beyond(kinds, from);
-        }
+    if from < kinds.len() && kinds[from] == 0 {
+        beyond(kinds, from)
+    } else {
+        from
     }
-    from
 }
 
 // Back from a place while no token begins in eight.
@@ -93,15 +90,13 @@ fn eights_back(kinds: &[u8], end: usize) -> usize
     requires { end ≤ length kinds.now }
     ensures { Gap kinds.now result end }
 {
-    let mut i = end;
-    while MANY <= i {
-        let at = i - MANY;
-        if !eight(kinds, at) {
-            return i;
+    for block in 0..end / MANY {
+        let last = end - block * MANY;
+        if !eight(kinds, last - MANY) {
+            return last;
         }
-        i = at;
     }
-    i
+    end % MANY
 }
 
 // The place behind the last one before a place at which a token begins, or the first of some.
@@ -109,15 +104,12 @@ fn back_within(kinds: &[u8], first: usize, end: usize) -> usize
     requires { (first ≤ end) × (end ≤ length kinds.now) }
     ensures { (Gap kinds.now result end) × (first ≤ result) }
 {
-    let mut i = end;
-    while first < i {
-        let at = i - 1;
-        if kinds[at] != 0 {
-            return i;
+    for i in (first..end).rev() {
+        if kinds[i] != 0 {
+            return i + 1;
         }
-        i = at;
     }
-    i
+    first
 }
 
 // The place behind the last one before a place at which a token begins, or the start.

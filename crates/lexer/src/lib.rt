@@ -5,7 +5,7 @@ pub mod bytes;
 pub mod gaps;
 pub mod words;
 
-ghost use Rattle.std.specs.Prelude.{◌≡◌, [], ◌∷◌, ◌+◌, ◌≤◌, ◌<◌, length, get_or, drop};
+ghost use Rattle.std.specs.Prelude.{◌≡◌, [], ◌∷◌, ◌+◌, ◌≤◌, ◌<◌, length, get_or, drop, IfSome, ℕ};
 ghost use Rattle.std.proofs.lemmas.List.Edits.{sets};
 ghost use Rattle.tokens.specs.Scanning.{Class.letters, Class.digits, nat_front, closing, comment_front, other_front, front_of, find_sign, signs, front};
 ghost use Rattle.tokens.specs.Marking.{followed, spot_of, Lone, parts, marks};
@@ -17,51 +17,36 @@ use tokens::{Spot, kind};
 // The n that ends a Nat literal.
 const NAT_END: u8 = b'n';
 
-// A word or a name.
-fn name(text: &[u8], at: usize) -> Spot
-    requires { at < length text.now }
-    ensures { result ≡ spot_of (front_of letters (get_or text.now at 0) (drop (at + 1) text.now)) }
+// A word or a name, which begins with a letter.
+fn name(text: &[u8]) -> Spot
+    requires { 0 < length text.now }
+    ensures { result ≡ spot_of (front_of letters (get_or text.now 0 0) (drop 1 text.now)) }
 {
-    let next = at + 1;
-    let end = bytes::name_end(text, next);
-    let kind = words::kind(&text[at..end]);
-    Spot::Marked(kind, end - next)
+    let more = bytes::names(&text[1..]);
+    Some((words::kind(&text[..more + 1]), more))
 }
 
-// Digits and the n behind them.
-fn nat(text: &[u8], at: usize) -> Spot
-    requires { at < length text.now }
-    ensures { result ≡ spot_of (front_of digits (get_or text.now at 0) (drop (at + 1) text.now)) }
+// Digits and the n after them, whatever the first digit.
+fn nat(rest: &[u8]) -> Spot
+    ensures { (b : ℕ) → result ≡ spot_of (front_of digits b rest.now) }
 {
-    let end = bytes::digits_end(text, at + 1);
-    if byte(text, end) == NAT_END {
-        return Spot::Marked(kind::NAT, end - at);
+    let more = bytes::digits(rest);
+    if byte(rest, more) == NAT_END {
+        Some((kind::NAT, more + 1))
+    } else {
+        None
     }
-    Spot::Stray
 }
 
-// A comment by the count of its bytes behind the opening.
-fn comment(n: usize) -> Spot
-    requires { n + 1 < 18446744073709551616 }
-    ensures { result ≡ spot_of (comment_front n) }
-{
-    if n == 0 {
-        return Spot::Stray;
-    }
-    Spot::Marked(kind::NONE, n + 1)
-}
-
-// A byte that is two with another, or else one.
-fn followed(c: u8, d: u8, two: u8, one: u8) -> Spot
+// A byte that is two with another, or else one by itself, if it is any.
+fn followed(c: u8, d: u8, two: u8, one: Option<u8>) -> Spot
     ensures { result ≡ followed c d two one }
 {
     if c == d {
-        return Spot::Marked(two, 1);
+        Some((two, 1))
+    } else {
+        one.map(|kind| (kind, 0))
     }
-    if one == kind::NONE {
-        return Spot::Stray;
-    }
-    Spot::Marked(one, 0)
 }
 
 // Signs and operators, by a byte and the one behind it.
@@ -69,69 +54,49 @@ fn sign(b: u8, c: u8) -> Spot
     ensures { result ≡ spot_of (find_sign signs (b ∷ c ∷ [])) }
 {
     match b {
-        b'!' => followed(c, b'=', kind::NE, kind::BANG),
-        b'%' => Spot::Marked(kind::REM, 0),
-        b'&' => followed(c, b'&', kind::AND, kind::NONE),
-        b'(' => Spot::Marked(kind::LPAR, 0),
-        b')' => Spot::Marked(kind::RPAR, 0),
-        b'*' => Spot::Marked(kind::MUL, 0),
-        b'+' => Spot::Marked(kind::ADD, 0),
-        b',' => Spot::Marked(kind::COMMA, 0),
-        b'-' => Spot::Marked(kind::SUB, 0),
-        b'.' => Spot::Marked(kind::DOT, 0),
-        b'/' => Spot::Marked(kind::DIV, 0),
-        b':' => followed(c, b'=', kind::ASSIGN, kind::COLON),
-        b';' => Spot::Marked(kind::SEMICOLON, 0),
-        b'<' => followed(c, b'=', kind::LE, kind::LT),
-        b'=' => Spot::Marked(kind::EQ, 0),
-        b'>' => followed(c, b'=', kind::GE, kind::GT),
-        b'{' => Spot::Marked(kind::LBRACE, 0),
-        b'|' => followed(c, b'|', kind::OR, kind::NONE),
-        b'}' => Spot::Marked(kind::RBRACE, 0),
-        _ => Spot::Stray,
+        b'!' => followed(c, b'=', kind::NE, Some(kind::BANG)),
+        b'%' => Some((kind::REM, 0)),
+        b'&' => followed(c, b'&', kind::AND, None),
+        b'(' => Some((kind::LPAR, 0)),
+        b')' => Some((kind::RPAR, 0)),
+        b'*' => Some((kind::MUL, 0)),
+        b'+' => Some((kind::ADD, 0)),
+        b',' => Some((kind::COMMA, 0)),
+        b'-' => Some((kind::SUB, 0)),
+        b'.' => Some((kind::DOT, 0)),
+        b'/' => Some((kind::DIV, 0)),
+        b':' => followed(c, b'=', kind::ASSIGN, Some(kind::COLON)),
+        b';' => Some((kind::SEMICOLON, 0)),
+        b'<' => followed(c, b'=', kind::LE, Some(kind::LT)),
+        b'=' => Some((kind::EQ, 0)),
+        b'>' => followed(c, b'=', kind::GE, Some(kind::GT)),
+        b'{' => Some((kind::LBRACE, 0)),
+        b'|' => followed(c, b'|', kind::OR, None),
+        b'}' => Some((kind::RBRACE, 0)),
+        _ => None,
     }
 }
 
 // What begins with neither letter, digit nor blank: a comment, an Int literal, a sign.
-fn other(text: &[u8], at: usize) -> Spot
-    requires { at < length text.now }
-    ensures { result ≡ spot_of (other_front (get_or text.now at 0) (drop (at + 1) text.now)) }
+fn other(b: u8, rest: &[u8]) -> Spot
+    ensures { result ≡ spot_of (other_front b rest.now) }
 {
-    let b = text[at];
-    let next = at + 1;
-    let c = byte(text, next);
+    let c = byte(rest, 0);
     if bytes::opens(b, c) {
-        return comment(bytes::closing(text, next + 1));
+        let inside = bytes::closing(&rest[1..])?;
+        return Some((kind::NONE, inside + 1));
     }
     if bytes::signed(b, c) {
-        return Spot::Marked(kind::INT, bytes::digits_end(text, next) - next);
+        return Some((kind::INT, bytes::digits(rest)));
     }
     sign(b, c)
 }
 
-// The longest token at a place, or a gap, by the class of its first byte.
-fn longer(text: &[u8], at: usize) -> Spot
-    requires { at < length text.now }
-    ensures { result ≡ spot_of (front (drop at text.now)) }
+// The kind of a byte that is a token whatever stands after it.
+fn alone(b: u8) -> Option<u8>
+    ensures { IfSome result (Lone b) }
 {
-    let b = text[at];
-    if bytes::is_letter(b) {
-        return name(text, at);
-    }
-    if bytes::is_digit(b) {
-        return nat(text, at);
-    }
-    if bytes::is_blank(b) {
-        return Spot::Marked(kind::NONE, 0);
-    }
-    other(text, at)
-}
-
-// The kind of a byte that is a token whatever stands behind it, 0 of any other.
-fn alone(b: u8) -> u8
-    ensures { (result ≡ 0 → ⊥) → Lone b result }
-{
-    match b {
+    let kind = match b {
         b'(' => kind::LPAR,
         b')' => kind::RPAR,
         b'{' => kind::LBRACE,
@@ -142,20 +107,31 @@ fn alone(b: u8) -> u8
         b'=' => kind::EQ,
         b'*' => kind::MUL,
         b'%' => kind::REM,
-        _ => kind::NONE,
-    }
+        _ => return None,
+    };
+    Some(kind)
 }
 
-// The longest token at a place, or a gap. Every second token is a byte alone, so these are told first.
-pub fn token(text: &[u8], at: usize) -> Spot
-    requires { at < length text.now }
-    ensures { result ≡ spot_of (front (drop at text.now)) }
+// The longest token at the front of a text, or a gap. Every second token is a byte alone, so these are told first.
+pub fn token(text: &[u8]) -> Spot
+    ensures { result ≡ spot_of (front text.now) }
 {
-    let k = alone(text[at]);
-    if k != kind::NONE {
-        return Spot::Marked(k, 0);
+    let [b, rest @ ..] = text else {
+        return None;
+    };
+    if let Some(kind) = alone(*b) {
+        return Some((kind, 0));
     }
-    longer(text, at)
+    if bytes::is_letter(*b) {
+        return name(text);
+    }
+    if bytes::is_digit(*b) {
+        return nat(rest);
+    }
+    if bytes::is_blank(*b) {
+        return Some((kind::NONE, 0));
+    }
+    other(*b, rest)
 }
 
 // The kinds of a text's tokens, each in its place, and whether the text parts into tokens: up to a place where it does not. No token begins among the kinds
@@ -166,14 +142,10 @@ pub fn mark(text: &[u8], kinds: &mut [u8]) -> bool
     ensures kinds_after { kinds.new ≡ sets kinds.old 0 (marks text.now) }
 {
     let mut i = 0;
-    while i < text.len() {
-        match token(text, i) {
-            Spot::Marked(k, n) => {
-                kinds[i] = k;
-                i += n + 1;
-            }
-            Spot::Stray => return false,
-        }
+    // A token says how far the next one is.
+    while let Some((kind, n)) = token(&text[i..]) {
+        kinds[i] = kind;
+        i += n + 1;
     }
-    true
+    i == text.len()
 }

@@ -11,27 +11,14 @@ use tokens::kind;
 fn same(s: &[u8], t: &[u8]) -> bool
     ensures { result ≡ same s.now t.now }
 {
-    if s.len() != t.len() {
-        return false;
-    }
-    let mut i = 0;
-    while i < s.len() {
-        if s[i] != t[i] {
-            return false;
-        }
-        i += 1;
-    }
-    true
+    s == t
 }
 
 // The kind of a word if it stands there, or else a name's.
 fn only(word: &[u8], own: u8, s: &[u8]) -> u8
     ensures { result ≡ one_word word.now own s.now }
 {
-    if same(word, s) {
-        return own;
-    }
-    kind::NAME
+    if same(word, s) { own } else { kind::NAME }
 }
 
 // The kind of a word that begins with a t, or else a name's.
@@ -39,12 +26,12 @@ fn with_t(s: &[u8]) -> u8
     ensures { result ≡ t_word s.now }
 {
     if same(b"then", s) {
-        return kind::THEN;
+        kind::THEN
+    } else if same(b"this", s) {
+        kind::THIS
+    } else {
+        only(b"true", kind::TRUE, s)
     }
-    if same(b"this", s) {
-        return kind::THIS;
-    }
-    only(b"true", kind::TRUE, s)
 }
 
 // The kind of a word or a name by its bytes: by the first letter, which but for the t belongs to one word alone.

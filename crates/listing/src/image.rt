@@ -4,7 +4,6 @@ ghost use Rattle.text.specs.Listing.{Placed};
 ghost use Rattle.listing.specs.Listings.{listing_bytes, listing_of};
 
 use directory::rows::ROWS;
-use load::Load;
 use step_lines::program;
 use text::lines::row;
 
@@ -22,8 +21,9 @@ pub fn listing(image: &[u8], text: &mut [u8]) -> usize
     let mut types = [0u8; types::MAX_STRUCTS * types::MAX_PARAMS];
     let mut rows = [0u16; ROWS];
     let r = load::program(image, &mut stream, &mut counts, &mut types, &mut rows);
-    let Load::Program(p) = r else {
-        return row(text, 0, b"refused", &[load::refusal(r) as u64]);
+    let p = match r {
+        Ok(p) => p,
+        Err(refusal) => return row(text, 0, b"refused", &[u64::from(u8::from(refusal))]),
     };
     let n = p.length;
     let structs = p.structs as usize;

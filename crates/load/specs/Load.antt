@@ -1,6 +1,6 @@
 -- What a program image is loaded as (01, 'Program stream', and 1 to 8 of 'Numbers from the input'): the answer, what stands in the lent memory
 -- then, and what a caller goes on with.
-use Rattle.std.specs.Prelude.{ℕ, ◌*◌, ◌≡◌, List, ◌++◌, length, drop}
+use Rattle.std.specs.Prelude.{Result as Answered, Ok, Err, ℕ, ◌*◌, ◌≡◌, List, ◌++◌, length, drop}
 use Rattle.types.specs.Limits.{max_params}
 use Rattle.types.specs.Stages.{Stage.went as accepted, Stage.stopped as refused}
 use Rattle.program.specs.Tree.{Program}
@@ -13,8 +13,6 @@ use Rattle.directory.specs.Rows.{Listed}
 use Rattle.read_program.specs.Whole.{steps_place, schedule_place}
 use Rattle.read_program.specs.declared.Summary.{Summary}
 use Rattle.load.specs.declared.Loaded.{Loaded}
-use Rattle.load.specs.declared.Load.{Load as Answer}
-use Rattle.load.specs.declared.Load.TheVariants.{Program as Accepts, Refused as Refuses}
 
 -- by its numbers
 abbrev pub loaded_of : ℕ → ℕ → ℕ → ℕ → ℕ → ℕ → ℕ → Loaded
@@ -29,14 +27,9 @@ abbrev pub loaded : Program → List ℕ → Loaded
 loaded p s =
     loaded_of (length s) (steps_place s) (schedule_place s p) (length p.params) (total length p.steps) (program_size p) (program_depth p)
 
-abbrev pub load_told : Checked → List ℕ → Answer
-load_told (accepted p) s = Accepts (loaded p s)
-load_told (refused n) s = Refuses n
-
--- the number of a refusal; of a program, 0
-abbrev pub load_refusal : Answer → ℕ
-load_refusal (Accepts z) = 0
-load_refusal (Refuses n) = n
+abbrev pub load_told : Checked → List ℕ → Answered Loaded ℕ
+load_told (accepted p) s = Ok (loaded p s)
+load_told (refused n) s = Err n
 
 -- Lent memory, by what it held before and after ----------------------------------------------
 

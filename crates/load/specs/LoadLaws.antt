@@ -1,17 +1,14 @@
 -- What the loader answers and leaves in lent memory, by a law for each way through it, and what its answer tells a caller (01, 1 to 8 of 'Numbers from
 -- the input').
-use Rattle.std.specs.Prelude.{ℕ, zero, suc, ◌*◌, ◌≤◌, ◌≡◌, refl, List, length, take}
+use Rattle.std.specs.Prelude.{Ok, Err, ℕ, zero, suc, ◌*◌, ◌≤◌, ◌≡◌, refl, List, length, take, Option, Some, None}
 use Rattle.std.proofs.Common.{arith, sym, ◌∙◌, take_at}
 use Rattle.std.proofs.Math.Path.{ap}
 use Rattle.std.proofs.lemmas.List.{length-map}
 use Rattle.types.specs.Limits.{program_blocks, max_params}
 use Rattle.types.specs.Stages.{Stage.went as accepted, Stage.stopped as refused}
 use Rattle.block.specs.declared.Fault.{Fault}
-use Rattle.block.specs.declared.Found.{Found}
-use Rattle.block.specs.declared.Found.TheVariants.{Right, Wrong}
 use Rattle.blocks.specs.Images.{fault, stream, opened_into, program_number as block_number}
 use Rattle.blocks.proofs.AnswerLaws.{stream_most}
-use Rattle.blocks.specs.declared.Opened.TheVariants.{Stream as Open}
 use Rattle.program.specs.Tree.{Program}
 use Rattle.program.specs.Counts.{Counts}
 use Rattle.program.specs.Reader.{Result, Result.ok, Result.bad, read_params, read}
@@ -30,14 +27,13 @@ use Rattle.emit.specs.Laws.ProgramLaws.{program_steps, whole_program}
 use Rattle.read_program.specs.declared.Summary.{Summary}
 use Rattle.read_program.specs.Whole.{place_of, schedule_place, ReadListed}
 use Rattle.load.specs.declared.Loaded.{Loaded}
-use Rattle.load.specs.declared.Load.TheVariants.{Program as Accepts, Refused as Refuses}
 use Rattle.load.specs.Load.{loaded_of, loaded_by, loaded, load_told, TablesHeld, RowsHeld, Held, Admitted}
 use Rattle.load.specs.StreamLaws.{Behind, passed, counted, here, plan_is, listed_is}
 
 -- A stream -----------------------------------------------------------------------------------
 
 -- what is refused is told, and memory is free
-pub refused_told : {c : Checked} {n : ℕ} (s : List ℕ) → c ≡ refused n → Refuses n ≡ load_told c s
+pub refused_told : {c : Checked} {n : ℕ} (s : List ℕ) → c ≡ refused n → Err n ≡ load_told c s
 refused_told s e = rw e
 
 pub refused_tables : {c : Checked} {n : ℕ} (cs cs' ts ts' : List ℕ) → c ≡ refused n → TablesHeld c cs cs' ts ts'
@@ -51,11 +47,11 @@ module _ (s : List ℕ) (k : ℕ) (z : Summary) (b : Behind s k z) (zero_number 
   abbrev p : Program
   p = b.program
 
-  pub value_told : Accepts (loaded_by (length s) k z) ≡ load_told (of_read (read s)) s
+  pub value_told : Ok (loaded_by (length s) k z) ≡ load_told (of_read (read s)) s
   value_told =
       let n = counted s k z b in
       rw (passed s k z b zero_number)
-      (ap Accepts (same_loaded (length s) k z.plan z.structs z.steps z.commands z.depth _ _ _ _ _ _ (sym b.place) (plan_is s k z b) n.3 n.0 n.1 n.2))
+      (ap Ok (same_loaded (length s) k z.plan z.structs z.steps z.commands z.depth _ _ _ _ _ _ (sym b.place) (plan_is s k z b) n.3 n.0 n.1 n.2))
 
   pub value_tables : (cs cs' ts ts' : List ℕ) → ParamsKept cs cs' ts ts' (read_params s 0) → TablesHeld (of_read (read s)) cs cs' ts ts'
   value_tables cs cs' ts ts' kept = rw (passed s k z b zero_number) (rw (here s k z b) at kept)
@@ -69,19 +65,19 @@ refused_rows h e = rw e tt
 -- An image -----------------------------------------------------------------------------------
 
 module _ (x : List ℕ) where
-  pub image_refused : (f : Fault) → fault program_blocks x ≡ Wrong f → checked x ≡ refused (block_number f)
+  pub image_refused : (f : Fault) → fault program_blocks x ≡ Some f → checked x ≡ refused (block_number f)
   unfolding checked of_image
-  image_refused f e = ap (λ (g : Found). of_image g x) e
+  image_refused f e = ap (λ (g : Option Fault). of_image g x) e
 
-  pub image_read : fault program_blocks x ≡ Right → checked x ≡ of_read (read (stream x))
+  pub image_read : fault program_blocks x ≡ None → checked x ≡ of_read (read (stream x))
   unfolding checked of_image
-  image_read e = ap (λ (g : Found). of_image g x) e
+  image_read e = ap (λ (g : Option Fault). of_image g x) e
 
 pub refused_held : {c : Checked} {n : ℕ} (s b b' cs cs' ts ts' : List ℕ) → c ≡ refused n → Held c s b b' cs cs' ts ts'
 refused_held s b b' cs cs' ts ts' e = rw e tt
 
 -- with the tables the buffer is held
-pub stream_held : (c : Checked) (s : List ℕ) (n : ℕ) (b b' cs cs' ts ts' : List ℕ) → n ≡ length s → b' ≡ opened_into (Open n) s b
+pub stream_held : (c : Checked) (s : List ℕ) (n : ℕ) (b b' cs cs' ts ts' : List ℕ) → n ≡ length s → b' ≡ opened_into (Ok n) s b
     → TablesHeld c cs cs' ts ts' → Held c s b b' cs cs' ts ts'
 unfolding opened_into
 stream_held (accepted p) s n b b' cs cs' ts ts' e f t = (rw e at f, t)
@@ -96,28 +92,28 @@ pub record LoadedAs (x : List ℕ) (z : Loaded) : Type 0 where
   pub is : z ≡ loaded program (stream x)
 
 module _ (x : List ℕ) where
-  pub load_refused : (n : ℕ) → load_told (checked x) (stream x) ≡ Refuses n → checked x ≡ refused n
+  pub load_refused : (n : ℕ) → load_told (checked x) (stream x) ≡ Err n → checked x ≡ refused n
   load_refused n e = go (checked x) e
     where
-      go : (c : Checked) → load_told c (stream x) ≡ Refuses n → c ≡ refused n
-      go (accepted p) i = let z : ◌≡◌ {A = ℕ} 0 1 = cc in absurd (omega arith)
+      go : (c : Checked) → load_told c (stream x) ≡ Err n → c ≡ refused n
+      go (accepted p) i = cc
       go (refused m) i = let j : m ≡ n = cc in ap refused j
 
-  pub load_value : (z : Loaded) → load_told (checked x) (stream x) ≡ Accepts z → LoadedAs x z
+  pub load_value : (z : Loaded) → load_told (checked x) (stream x) ≡ Ok z → LoadedAs x z
   load_value z e = go (checked x) refl e
     where
-      go : (c : Checked) → checked x ≡ c → load_told c (stream x) ≡ Accepts z → LoadedAs x z
+      go : (c : Checked) → checked x ≡ c → load_told c (stream x) ≡ Ok z → LoadedAs x z
       go (accepted p) q i = record { program = p; accepts = q; is = cc }
-      go (refused m) q i = let z : ◌≡◌ {A = ℕ} 0 1 = cc in absurd (omega arith)
+      go (refused m) q i = cc
 
 -- an accepted image is right, its stream is read as the program, and no number refuses it
 judge_accepts : (p q : Program) (n : ℕ) → judge q n ≡ accepted p → (q ≡ p) × (n ≡ 0)
 unfolding judge
 judge_accepts p q zero e = (cc, refl)
-judge_accepts p q (suc n) e = let z : ◌≡◌ {A = ℕ} 0 1 = cc in absurd (omega arith)
+judge_accepts p q (suc n) e = cc
 
 pub record Source (x : List ℕ) (p : Program) : Type 0 where
-  pub right : fault program_blocks x ≡ Right
+  pub right : fault program_blocks x ≡ None
   pub end : ℕ
   pub reads : read (stream x) ≡ ok p end
   pub numbered : breach_number p ≡ 0
@@ -126,15 +122,15 @@ pub accepted_source : (x : List ℕ) (p : Program) → checked x ≡ accepted p 
 unfolding checked of_image of_read
 accepted_source x p e = go (fault program_blocks x) refl e
   where
-    inside : fault program_blocks x ≡ Right → (r : Result Program) → read (stream x) ≡ r → of_read r ≡ accepted p → Source x p
+    inside : fault program_blocks x ≡ None → (r : Result Program) → read (stream x) ≡ r → of_read r ≡ accepted p → Source x p
     inside f (ok q m) i h =
         let j = judge_accepts p q (breach_number q) h in
         record { right = f; end = m; reads = i ∙ ap (λ (a : Program). ok a m) j.0; numbered = ap breach_number (sym j.0) ∙ j.1 }
-    inside f (bad n k) i h = let z : ◌≡◌ {A = ℕ} 0 1 = cc in absurd (omega arith)
+    inside f (bad n k) i h = cc
 
-    go : (g : Found) → fault program_blocks x ≡ g → of_image g x ≡ accepted p → Source x p
-    go (Wrong f) i h = let z : ◌≡◌ {A = ℕ} 0 1 = cc in absurd (omega arith)
-    go Right i h = inside i (read (stream x)) refl h
+    go : (g : Option Fault) → fault program_blocks x ≡ g → of_image g x ≡ accepted p → Source x p
+    go (Some f) i h = cc
+    go None i h = inside i (read (stream x)) refl h
 
 module _ (x : List ℕ) (z : Loaded) (l : LoadedAs x z) where
   abbrev loaded_program : Program

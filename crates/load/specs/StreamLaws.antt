@@ -4,7 +4,7 @@ use Prim.Native.Nat.{ℕ, zero, suc, ◌*◌, ◌<◌, ◌≤◌}
 use Rattle.std.proofs.Common.{arith, ◌∙◌, take_at}
 use Rattle.std.proofs.Math.Path.{◌≡◌, refl, ap, sym}
 use mathlib.Core.List.{List, [], ◌∷◌, ◌++◌, map}
-use Rattle.std.specs.Prelude.{length, take, drop}
+use Rattle.std.specs.Prelude.{Ok, Err, Bool, true, false, not, length, take, drop}
 use Rattle.std.proofs.lemmas.List.{length-map}
 use Rattle.types.specs.Limits.{max_depth, max_steps}
 use Rattle.types.specs.Stages.{Stage.went as accepted, Stage.stopped as refused}
@@ -13,7 +13,12 @@ use Rattle.program.specs.Counts.{All, Few, CountsStep, Counts}
 use Rattle.program.specs.Reader.{Result, Result.ok, Result.bad, read_params, read}
 use Rattle.program.proofs.Laws.ProgramLaws.{program_law}
 use Rattle.commands.specs.Bounds.{total, greatest, step_depth, arities, program_size, program_depth, Within}
-use Rattle.commands.specs.Numbers.{breach_number}
+use Rattle.answers.specs.Answers.{Answer}
+use Rattle.answers.specs.AnswerLaws.{ok_parts}
+use Rattle.commands.specs.Numbers.{breach_number, breach_tests, first, over_limits, wrong_names, wrong_types}
+use Rattle.commands.specs.Decide.BoundsDecide.{within as within_test}
+use Rattle.commands.specs.Decide.NamesDecide.{names_right}
+use Rattle.commands.specs.Decide.TypingDecide.{types_right}
 use Rattle.commands.proofs.Laws.NumbersLaws.{number_accepted}
 use Rattle.verdict.specs.Verdict.{judge, of_read}
 use Rattle.judge.specs.ProgramFacts.{program_totals, program_plan, checked_number}
@@ -23,7 +28,6 @@ use Rattle.directory.specs.Rows.{Listed}
 use Rattle.read_params.specs.ParamsTold.{ParamsKept}
 use Rattle.emit.specs.Laws.ProgramLaws.{Standing, program_steps, whole_program}
 use Rattle.read_program.specs.declared.Summary.{Summary}
-use Rattle.read_program.specs.declared.ProgramRead.TheVariants.{Value, Refused}
 use Rattle.read_program.specs.Whole.{summary, place_of, steps_place, schedule_place, program_told, ReadListed}
 
 total_few : {A : Type 0} (C : A → Type 0) (l : List (List A)) → All (Few 0 max_steps C) l → total length l ≤ max_steps * length l
@@ -39,12 +43,12 @@ greatest_most f (a ∷ l) h = omega (arith, h.0, greatest_most f l h.1)
 -- What was read, from what was answered ------------------------------------------------
 
 module _ (s : List ℕ) where
-  pub stream_stops : (e : ℕ) → program_told s (read s) ≡ Refused e → of_read (read s) ≡ refused e
+  pub stream_stops : (e : ℕ) → program_told s (read s) ≡ Err e → of_read (read s) ≡ refused e
   unfolding of_read
   stream_stops e i = go (read s) i
     where
-      go : (q : Result Program) → program_told s q ≡ Refused e → of_read q ≡ refused e
-      go (ok p m) i = let z : ◌≡◌ {A = ℕ} 0 1 = cc in absurd (omega arith)
+      go : (q : Result Program) → program_told s q ≡ Err e → of_read q ≡ refused e
+      go (ok p m) i = cc
       go (bad p n) i = let j : n ≡ e = cc in ap refused j
 
   -- the program behind an answer
@@ -56,12 +60,16 @@ module _ (s : List ℕ) where
     pub place : steps_place s ≡ k
     pub summed : z ≡ summary (length program.params) (schedule_place s program) (program_totals program) (program_plan program)
 
-  pub stream_value : (k : ℕ) (z : Summary) → program_told s (read s) ≡ Value k z → Behind k z
+  pub stream_value : (k : ℕ) (z : Summary) → program_told s (read s) ≡ Ok (k, z) → Behind k z
   stream_value k z i = go (read s) refl i
     where
-      go : (q : Result Program) → read s ≡ q → program_told s q ≡ Value k z → Behind k z
-      go (ok p m) e i = record { program = p; end = m; reads = e; counts = ((program_law s p m).0 e).0; place = cc; summed = cc }
-      go (bad p n) e i = let x : ◌≡◌ {A = ℕ} 0 1 = cc in absurd (omega arith)
+      parts : (p : Program) → ◌≡◌ {A = Answer Summary} (Ok (steps_place s, summary (length p.params) (schedule_place s p) (program_totals p) (program_plan p))) (Ok (k, z))
+          → (steps_place s ≡ k) × (summary (length p.params) (schedule_place s p) (program_totals p) (program_plan p) ≡ z)
+      parts p e = ok_parts (steps_place s) k (summary (length p.params) (schedule_place s p) (program_totals p) (program_plan p)) z e
+
+      go : (q : Result Program) → read s ≡ q → program_told s q ≡ Ok (k, z) → Behind k z
+      go (ok p m) e i = record { program = p; end = m; reads = e; counts = ((program_law s p m).0 e).0; place = (parts p i).0; summed = sym (parts p i).1 }
+      go (bad p n) e i = cc
 
   module _ (k : ℕ) (z : Summary) (b : Behind k z) where
     abbrev p : Program
@@ -74,6 +82,17 @@ module _ (s : List ℕ) where
     judged : of_read (read s) ≡ judge p z.number
     unfolding of_read
     judged = rw (b.reads, ← number_is)
+
+    -- it is 0, or 6 to 8
+    pub breach : (z.number ≡ 0 → ⊥) → (6 ≤ z.number) × (z.number ≤ 8)
+    unfolding breach_number breach_tests first
+    breach h = go (not (within_test p)) (not (names_right p)) (not (types_right p)) number_is
+      where
+        go : (a b c : Bool) → z.number ≡ first ((over_limits, a) ∷ (wrong_names, b) ∷ (wrong_types, c) ∷ []) → (6 ≤ z.number) × (z.number ≤ 8)
+        go true b c e = omega arith
+        go false true c e = omega arith
+        go false false true e = omega arith
+        go false false false e = absurd (h e)
 
     -- a number other than 0 refuses, and 0 accepts
     pub numbered : (z.number ≡ 0 → ⊥) → of_read (read s) ≡ refused z.number

@@ -4,15 +4,16 @@
 
 ghost use Rattle.std.specs.Prelude.{◌≡◌, ◌*◌, ◌≤◌, ◌<◌, length};
 ghost use Rattle.types.specs.Limits.{program_blocks, max_structs, max_params};
+ghost use Rattle.types.specs.Refusals.{number, numbered};
 ghost use Rattle.block.specs.Block.{payload_size};
 ghost use Rattle.blocks.specs.Images.{stream};
 ghost use Rattle.program.specs.Reader.{read};
 ghost use Rattle.directory.specs.Rows.{directory_places};
 ghost use Rattle.verdict.specs.Verdict.{of_read, checked};
-ghost use Rattle.load.specs.Load.{loaded_by, load_told, load_refusal, TablesHeld, RowsHeld, Held};
+ghost use Rattle.load.specs.Load.{loaded_by, load_told, TablesHeld, RowsHeld, Held};
 
-use blocks::Opened;
-use read_program::{ProgramRead, Summary};
+use read_program::Summary;
+use types::refusal::Refusal;
 
 // What an accepted program is loaded as: how long its stream is, where its steps begin and where its schedule does, how many structs, steps and commands it
 // has, and its depth.
@@ -27,20 +28,18 @@ pub struct Loaded {
     pub depth: u8,
 }
 
-#[derive(Clone, Copy)]
-pub enum Load {
-    Program(Loaded),
-    Refused(u8),
-}
-
-// The number of a refusal, for a caller whose own answer is of another type; 0 where a program was loaded.
-pub fn refusal(r: Load) -> u8
-    ensures { result ≡ load_refusal r }
+// The refusal of a program that was read, by its number, 6 to 8.
+fn breach(n: u8) -> Refusal
+    requires { (6 ≤ n) × (n ≤ 8) }
+    ensures { number result ≡ n }
 {
-    let Load::Refused(n) = r else {
-        return 0;
-    };
-    n
+    if n == u8::from(Refusal::OverLimits) {
+        return Refusal::OverLimits;
+    }
+    if n == u8::from(Refusal::WrongNames) {
+        return Refusal::WrongNames;
+    }
+    Refusal::WrongTypes
 }
 
 fn summed(length: usize, at: usize, p: Summary) -> Loaded
@@ -59,21 +58,23 @@ fn summed(length: usize, at: usize, p: Summary) -> Loaded
 }
 
 // A program stream: 4 to 8.
-fn of_stream(s: &[u8], counts: &mut [u8], types: &mut [u8], rows: &mut [u16]) -> Load
+fn of_stream(
+    s: &[u8],
+    counts: &mut [u8],
+    types: &mut [u8],
+    rows: &mut [u16],
+) -> Result<Loaded, Refusal>
     requires counts_len { (length counts.old ≡ max_structs) × (length types.old ≡ max_structs * max_params) }
     requires s_len_bound { (length s.now < 65536) × (directory_places ≤ length rows.old) }
-    ensures value { result ≡ load_told (of_read (read s.now)) s.now }
+    ensures value { numbered result ≡ load_told (of_read (read s.now)) s.now }
     ensures tables_held { TablesHeld (of_read (read s.now)) counts.old counts.new types.old types.new }
     ensures rows_held { RowsHeld (of_read (read s.now)) rows.new }
 {
-    let r = read_program::program(s, counts, types, rows);
-    let ProgramRead::Value(at, p) = r else {
-        return Load::Refused(read_program::program_refusal(r));
-    };
+    let (at, p) = read_program::program(s, counts, types, rows)?;
     if p.number != 0 {
-        return Load::Refused(p.number);
+        return Err(breach(p.number));
     }
-    Load::Program(summed(s.len(), at, p))
+    Ok(summed(s.len(), at, p))
 }
 
 // A program image: 1 to 8. The buffer has room for the payloads of 64 blocks. After a refusal what was lent is free, of the lengths that it had.
@@ -83,18 +84,17 @@ pub fn program(
     counts: &mut [u8],
     types: &mut [u8],
     rows: &mut [u16],
-) -> Load
+) -> Result<Loaded, Refusal>
     requires program_blocks_in_bounds { payload_size * program_blocks ≤ length buffer.old }
     requires counts_len { (length counts.old ≡ max_structs) × (length types.old ≡ max_structs * max_params) }
     requires directory_places_in_bounds { directory_places ≤ length rows.old }
-    ensures value { result ≡ load_told (checked image.now) (stream image.now) }
+    ensures value { numbered result ≡ load_told (checked image.now) (stream image.now) }
     ensures held { Held (checked image.now) (stream image.now) buffer.old buffer.new counts.old
         counts.new types.old types.new }
     ensures rows_held { RowsHeld (checked image.now) rows.new }
 {
-    let r = blocks::open_image(image, types::PROGRAM_BLOCKS, buffer);
-    let Opened::Stream(n) = r else {
-        return Load::Refused(blocks::program_number(blocks::fault_of(r)));
-    };
-    of_stream(&buffer[..n], counts, types, rows)
+    match blocks::open_image(image, types::PROGRAM_BLOCKS, buffer) {
+        Ok(n) => of_stream(&buffer[..n], counts, types, rows),
+        Err(fault) => Err(blocks::program_number(fault)),
+    }
 }

@@ -1,16 +1,16 @@
 -- One command of an instance, on memory (01, 'Table and turns'; 000's rules for commands). What a command needs is `Fit`: demand 3
 -- says that it is met, so nothing is tested here.
-use Rattle.std.specs.Prelude.{ℕ, suc, ◌+◌, ◌-◌, ◌*◌, ◌%◌, true, false, List, length, get_or, set, take, drop, eqb, ltb, leb}
+use Rattle.std.specs.Prelude.{ℕ, suc, ◌+◌, ◌-◌, ◌*◌, ◌%◌, true, false, List, length, get_or, set, take, drop, eqb, ltb, leb, Result, Ok, Err}
 use Rattle.std.proofs.lemmas.List.Edits.{sets}
 use Rattle.types.specs.Limits.{max_instances}
-use Rattle.operators.specs.declared.Answered.{Answered}
-use Rattle.operators.specs.declared.Answered.TheVariants.{Value, Outside, Unfit}
 use Rattle.operators.specs.Words.{apply_word}
 pub use Rattle.machine.specs.Stops.{full, exceeded}
 use Rattle.layout.specs.Layout.{head_size, struct_of, height_of, next_of, row_size, variable, stacked, cell}
 use Rattle.layout.specs.Layout.{type_byte, operand, label_cell, new_head, going, holds}
 use Rattle.layout.specs.State.{State, with_heads, with_cells, times, unstable, refused, with_count, with_holding, with_from, of_head, of_cell}
 use Rattle.memory.specs.Choose.{fewer}
+use Rattle.operators.specs.declared.OperatorError.{OperatorError}
+use Rattle.operators.specs.declared.OperatorError.TheVariants.{Outside, Unfit}
 
 -- the types of truths
 abbrev pub bool_byte : ℕ
@@ -56,10 +56,10 @@ module _ (counts : List ℕ) (l : ℕ) (z : State) where
   unfoldable pub do_if : ℕ → State
   do_if n = gone z l (height - 1) (elim (eqb (operand top) 0) [ true ↦ after + n | false ↦ after ])
 
-  unfoldable pub answered : ℕ → Answered → State
-  answered t (Value v) = pushed z l (height - 2) (cell t v) after
-  answered t Outside = refused exceeded z
-  answered t Unfit = z
+  unfoldable pub answered : ℕ → Result ℕ OperatorError → State
+  answered t (Ok v) = pushed z l (height - 2) (cell t v) after
+  answered t (Err Outside) = refused exceeded z
+  answered t (Err Unfit) = z
 
   unfoldable pub do_op : ℕ → State
   do_op o = answered (result_byte o (type_byte beneath)) (apply_word o (type_byte beneath) (operand beneath) (operand top))

@@ -1,8 +1,7 @@
 -- What the next command of an instance needs of memory, as plain bounds (01, 'The words of demand 3'): its places lie in the lists, its
 -- operands are there and in their ranges, and its stack has room.
-use Rattle.std.specs.Prelude.{ℕ, ◌+◌, ◌-◌, ◌*◌, ◌%◌, ◌<◌, ◌≤◌, ◌≡◌, true, false, List, length, get_or, eqb}
+use Rattle.std.specs.Prelude.{ℕ, ◌+◌, ◌-◌, ◌*◌, ◌%◌, ◌<◌, ◌≤◌, ◌≡◌, true, false, List, length, get_or, eqb, Ok}
 use Rattle.types.specs.Limits.{nat_end, max_structs, max_params, max_instances, max_depth, variables}
-use Rattle.operators.specs.declared.Answered.TheVariants.{Value}
 use Rattle.operators.specs.Words.{apply_word}
 use Rattle.layout.specs.Layout.{head_size, row_size, struct_of, next_of, end_of, type_byte, operand}
 use Rattle.layout.specs.State.{State, of_head}
@@ -61,7 +60,7 @@ pub record OpFit (h b t o : ℕ) : Type 0 where
   pub byte : o < 256
   pub left : operand b < nat_end
   pub right : operand t < nat_end
-  pub result : (v : ℕ) → apply_word o (type_byte b) (operand b) (operand t) ≡ Value v → v < nat_end
+  pub result : (v : ℕ) → apply_word o (type_byte b) (operand b) (operand t) ≡ Ok v → v < nat_end
 
 -- a command by its kind and its operand
 module _ (counts : List ℕ) (l : ℕ) (z : State) where

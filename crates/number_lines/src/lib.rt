@@ -1,33 +1,33 @@
 // Words of `numbers` as text (docs/FORMAT.md, 'Tables as text'): numbers in decimal, one behind the other on their lines.
 #![tactic(auto)]
 
-ghost use Rattle.std.specs.Prelude.{◌+◌, ◌*◌, ◌≤◌, ◌<◌, length};
+ghost use Rattle.std.specs.Prelude.{◌≡◌, ◌+◌, ◌*◌, ◌≤◌, ◌<◌, length};
 ghost use Rattle.text.specs.Listing.{Placed};
 ghost use Rattle.number_lines.specs.Lines.{separator, sign, word_text, last_end, lines};
 
-fn separator(out: &mut [u8], k: usize, begin: bool, w: u64) -> usize
-    requires { k < length out.old }
-    ensures placed { Placed (separator begin w) out.old k result out.new }
-    ensures upper_bound { result ≤ k + 1 }
+// What parts a word from the one before it.
+fn separator(begin: bool, w: u64) -> &'static [u8]
+    ensures text { result.now ≡ separator begin w }
+    ensures short { length result.now ≤ 1 }
 {
     if begin {
-        return k;
+        b""
+    } else if w < numbers::FIRST {
+        b" "
+    } else {
+        b"\n"
     }
-    if w < numbers::FIRST {
-        return text::put(out, k, b" ");
-    }
-    text::put(out, k, b"\n")
 }
 
-fn sign(out: &mut [u8], k: usize, w: u64) -> usize
-    requires { k < length out.old }
-    ensures placed { Placed (sign w) out.old k result out.new }
-    ensures upper_bound { result ≤ k + 1 }
+fn sign(w: u64) -> &'static [u8]
+    ensures text { result.now ≡ sign w }
+    ensures short { length result.now ≤ 1 }
 {
     if w % numbers::FIRST < numbers::MINUS {
-        return k;
+        b""
+    } else {
+        b"-"
     }
-    text::put(out, k, b"-")
 }
 
 fn word(out: &mut [u8], k: usize, begin: bool, w: u64) -> usize
@@ -35,20 +35,17 @@ fn word(out: &mut [u8], k: usize, begin: bool, w: u64) -> usize
     ensures placed { Placed (word_text begin w) out.old k result out.new }
     ensures upper_bound { result ≤ k + 22 }
 {
-    let a = separator(out, k, begin, w);
-    let b = sign(out, a, w);
+    let a = text::put(out, k, separator(begin, w));
+    let b = text::put(out, a, sign(w));
     text::decimal(out, b, w % numbers::MINUS)
 }
 
-fn last_end(out: &mut [u8], k: usize, begin: bool) -> usize
-    requires { k < length out.old }
-    ensures placed { Placed (last_end begin) out.old k result out.new }
-    ensures upper_bound { result ≤ k + 1 }
+// What ends the last line, if there is one.
+fn last_end(begin: bool) -> &'static [u8]
+    ensures text { result.now ≡ last_end begin }
+    ensures short { length result.now ≤ 1 }
 {
-    if begin {
-        return k;
-    }
-    text::put(out, k, b"\n")
+    if begin { b"" } else { b"\n" }
 }
 
 // The lines of words, from the start of out; where they end.
@@ -59,11 +56,9 @@ pub fn print(words: &[u64], out: &mut [u8]) -> usize
 {
     let mut k = 0;
     let mut begin = true;
-    let mut i = 0;
-    while i < words.len() {
-        k = word(out, k, begin, words[i]);
+    for w in words {
+        k = word(out, k, begin, *w);
         begin = false;
-        i += 1;
     }
-    last_end(out, k, begin)
+    text::put(out, k, last_end(begin))
 }

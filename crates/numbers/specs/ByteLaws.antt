@@ -1,5 +1,5 @@
 -- Laws of words as bytes: one word after the other.
-use Rattle.std.specs.Prelude.{ℕ, ◌+◌, ◌≤◌, ◌<◌, ◌≡◌, List, ◌∷◌, length, set, drop, get_or}
+use Rattle.std.specs.Prelude.{ℕ, ◌+◌, ◌≤◌, ◌<◌, ◌≡◌, List, ◌∷◌, length, set, drop, get_or, Ok, Err}
 use Rattle.std.proofs.Common.{arith, ◌∙◌, drop-cons}
 use Rattle.std.proofs.Math.Numerals.{add-one}
 use Rattle.std.proofs.Math.Path.{sym}
@@ -8,7 +8,7 @@ use Rattle.std.proofs.lemmas.List.Edits.{sets}
 use borrow.Author.Tests.{lt-ltb, le-ltb}
 use Rattle.numbers.specs.Scan.{unmarked, bytes_of, bytes_answer}
 use Rattle.numbers.specs.ScanLaws.{sets_out}
-use Rattle.numbers.specs.declared.Bytes.TheVariants.{Count, Large, Long}
+use Rattle.numbers.specs.declared.BytesError.TheVariants.{Large, Long}
 
 -- i words of ws were written: what is left leads to the answer and to the bytes of the whole
 pub record Passed (ws out₀ out : List ℕ) (i : ℕ) : Type 0 where
@@ -18,7 +18,7 @@ pub record Passed (ws out₀ out : List ℕ) (i : ℕ) : Type 0 where
   pub written : sets out i (bytes_of (drop i ws)) ≡ sets out₀ 0 (bytes_of ws)
 
 module _ {ws out₀ out : List ℕ} {i : ℕ} (r : Passed ws out₀ out i) where
-  pub passed_end : length ws ≤ i → (Count i ≡ bytes_answer (length out₀) 0 ws) × (out ≡ sets out₀ 0 (bytes_of ws))
+  pub passed_end : length ws ≤ i → (Ok i ≡ bytes_answer (length out₀) 0 ws) × (out ≡ sets out₀ 0 (bytes_of ws))
   unfolding bytes_of bytes_answer
   passed_end h = let e = drop_of_length-le ws {i = i} h in (rw e at r.answer, rw e at r.written)
 
@@ -26,14 +26,14 @@ module _ {ws out₀ out : List ℕ} {i : ℕ} (r : Passed ws out₀ out i) where
     next : drop i ws ≡ get_or ws i 0 ∷ drop (i + 1) ws
     next = rw (add-one, drop-cons ws i 0)
 
-    pub passed_large : 255 < unmarked (get_or ws i 0) → (Large (i + 1) ≡ bytes_answer (length out₀) 0 ws) × (out ≡ sets out₀ 0 (bytes_of ws))
+    pub passed_large : 255 < unmarked (get_or ws i 0) → (Err (Large (i + 1)) ≡ bytes_answer (length out₀) 0 ws) × (out ≡ sets out₀ 0 (bytes_of ws))
     unfolding bytes_of bytes_answer
     passed_large h =
         let t = le-ltb (unmarked (get_or ws i 0)) 256 (omega arith) in
         (rw (next, bytes_answer, t) at r.answer, rw (next, bytes_of, t) at r.written)
 
     module _ (h : unmarked (get_or ws i 0) ≤ 255) where
-      pub passed_long : length out ≤ i → (Long ≡ bytes_answer (length out₀) 0 ws) × (out ≡ sets out₀ 0 (bytes_of ws))
+      pub passed_long : length out ≤ i → (Err Long ≡ bytes_answer (length out₀) 0 ws) × (out ≡ sets out₀ 0 (bytes_of ws))
       unfolding bytes_answer
       passed_long g =
           let t = lt-ltb (unmarked (get_or ws i 0)) 256 (omega arith) in

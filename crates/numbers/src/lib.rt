@@ -2,7 +2,7 @@
 // one word, with a mark where it is the first of its line and one where it has a minus sign (docs/FORMAT.md, 'Numbers as text').
 #![tactic(auto)]
 
-ghost use Rattle.std.specs.Prelude.{◌≡◌, ◌++◌, [], ◌∷◌, ◌+◌, ◌*◌, ◌≤◌, ◌<◌, length, get_or, take};
+ghost use Rattle.std.specs.Prelude.{◌≡◌, ◌+◌, ◌*◌, ◌≤◌, length, IfOk};
 ghost use Rattle.std.proofs.lemmas.List.Edits.{sets};
 ghost use Rattle.numbers.specs.Scan.{char_of, step, in_gap, behind_sign, longer, in_number, coded, turn_of, turn_into, scanned, words};
 ghost use Rattle.numbers.specs.Scan.{bytes_of, bytes_answer};
@@ -22,129 +22,127 @@ pub enum Char {
     Other,
 }
 
-// Between numbers, behind a minus sign, or in a number: whether it is the line's first, whether it has the sign, its value so far.
+// A number so far: whether it is its line's first, whether it has a minus sign, its value.
+#[derive(Clone, Copy)]
+pub struct Number {
+    pub first: bool,
+    pub minus: bool,
+    pub value: u32,
+}
+
+// Between numbers or after a minus sign, and whether the next number is its line's first; or in a number.
 #[derive(Clone, Copy)]
 pub enum State {
     Gap(bool),
     Sign(bool),
-    Open(bool, bool, u32),
+    Open(Number),
 }
 
-// What a byte leads to: a state, a number that ends there and a state, or no number.
+// Why a byte belongs to no number: it stands where none may stand, or the number gets too large.
 #[derive(Clone, Copy)]
-pub enum Step {
-    Go(State),
-    Number(bool, bool, u32, State),
-    Stray,
-    Over,
-}
-
-// The same with the words counted: there may be no place for one more.
-#[derive(Clone, Copy)]
-pub enum Turn {
-    Next(State, usize),
+pub enum Fault {
     Strange,
     Large,
-    Full,
 }
 
-// What a text says: so many numbers; or why not, with the place of the byte.
-#[derive(Clone, Copy)]
-pub enum Scanned {
-    Numbers(usize),
+// A number that ends at a byte, if one does, and the state after it.
+type Step = Result<(Option<Number>, State), Fault>;
+
+// Why a text gives no numbers: the place of the byte that is strange or makes a number too large, or that there are too many.
+#[derive(Clone, Copy, PartialEq, Eq, Debug)]
+pub enum ScanError {
     Strange(usize),
     Large(usize),
     Long,
 }
 
-// What words say as bytes: so many; or the first that is none, counted from 1.
-#[derive(Clone, Copy)]
-pub enum Bytes {
-    Count(usize),
+// Why words are no bytes: the first that is none, counted from 1, or that there are too many.
+#[derive(Clone, Copy, PartialEq, Eq, Debug)]
+pub enum BytesError {
     Large(usize),
     Long,
 }
 
-fn char_of(c: u8) -> Char
-    ensures { result ≡ char_of c }
-{
-    if c == 10 {
-        return Char::Line;
+impl From<u8> for Char {
+    ghost from_gives = { λ c r. r ≡ char_of c };
+
+    fn from(c: u8) -> Char {
+        match c {
+            b'\n' => Char::Line,
+            b'-' => Char::Minus,
+            b' ' | b'\t' | b'\r' | b',' => Char::Blank,
+            b'0'..=b'9' => Char::Digit(c - b'0'),
+            _ => Char::Other,
+        }
     }
-    if c == 45 {
-        return Char::Minus;
+}
+
+// The word of a number.
+impl From<Number> for u64 {
+    ghost from_gives = { λ n r. r ≡ coded n.first n.minus n.value };
+
+    fn from(n: Number) -> u64 {
+        let first = if n.first { FIRST } else { 0 };
+        let minus = if n.minus { MINUS } else { 0 };
+        first + minus + u64::from(n.value)
     }
-    if c == 32 {
-        return Char::Blank;
-    }
-    if c == 9 {
-        return Char::Blank;
-    }
-    if c == 13 {
-        return Char::Blank;
-    }
-    if c == 44 {
-        return Char::Blank;
-    }
-    if c < 48 {
-        return Char::Other;
-    }
-    if c < 58 {
-        return Char::Digit(c - 48);
-    }
-    Char::Other
 }
 
 fn in_gap(first: bool, c: Char) -> Step
     ensures { result ≡ in_gap first c }
 {
-    match c {
-        Char::Digit(d) => Step::Go(State::Open(first, false, d as u32)),
-        Char::Minus => Step::Go(State::Sign(first)),
-        Char::Line => Step::Go(State::Gap(true)),
-        Char::Blank => Step::Go(State::Gap(first)),
-        Char::Other => Step::Stray,
-    }
+    let next = match c {
+        Char::Digit(d) => State::Open(Number {
+            first,
+            minus: false,
+            value: u32::from(d),
+        }),
+        Char::Minus => State::Sign(first),
+        Char::Line => State::Gap(true),
+        Char::Blank => State::Gap(first),
+        Char::Other => return Err(Fault::Strange),
+    };
+    Ok((None, next))
 }
 
 fn behind_sign(first: bool, c: Char) -> Step
     ensures { result ≡ behind_sign first c }
 {
+    let Char::Digit(d) = c else {
+        return Err(Fault::Strange);
+    };
+    let open = Number {
+        first,
+        minus: true,
+        value: u32::from(d),
+    };
+    Ok((None, State::Open(open)))
+}
+
+// A digit after a number so far.
+fn longer(n: Number, d: u8) -> Step
+    ensures { result ≡ longer n d }
+{
+    let value = 10 * u64::from(n.value) + u64::from(d);
+    let Ok(value) = u32::try_from(value) else {
+        return Err(Fault::Large);
+    };
+    let open = Number {
+        first: n.first,
+        minus: n.minus,
+        value,
+    };
+    Ok((None, State::Open(open)))
+}
+
+fn in_number(n: Number, c: Char) -> Step
+    ensures { result ≡ in_number n c }
+{
     match c {
-        Char::Digit(d) => Step::Go(State::Open(first, true, d as u32)),
-        Char::Minus => Step::Stray,
-        Char::Line => Step::Stray,
-        Char::Blank => Step::Stray,
-        Char::Other => Step::Stray,
-    }
-}
-
-// A digit behind a value.
-fn extended(v: u32, d: u8) -> u64
-    ensures { result ≡ 10 * v + d }
-{
-    10 * v as u64 + d as u64
-}
-
-fn longer(first: bool, minus: bool, v: u32, d: u8) -> Step
-    ensures { result ≡ longer first minus v d }
-{
-    let w = extended(v, d);
-    if w < MINUS {
-        return Step::Go(State::Open(first, minus, w as u32));
-    }
-    Step::Over
-}
-
-fn in_number(first: bool, minus: bool, v: u32, c: Char) -> Step
-    ensures { result ≡ in_number first minus v c }
-{
-    match c {
-        Char::Digit(d) => longer(first, minus, v, d),
-        Char::Minus => Step::Stray,
-        Char::Line => Step::Number(first, minus, v, State::Gap(true)),
-        Char::Blank => Step::Number(first, minus, v, State::Gap(false)),
-        Char::Other => Step::Stray,
+        Char::Digit(d) => longer(n, d),
+        Char::Line => Ok((Some(n), State::Gap(true))),
+        Char::Blank => Ok((Some(n), State::Gap(false))),
+        Char::Minus | Char::Other => Err(Fault::Strange),
     }
 }
 
@@ -154,91 +152,69 @@ fn stepped(s: State, c: Char) -> Step
     match s {
         State::Gap(first) => in_gap(first, c),
         State::Sign(first) => behind_sign(first, c),
-        State::Open(first, minus, v) => in_number(first, minus, v, c),
+        State::Open(n) => in_number(n, c),
     }
 }
 
-fn coded(first: bool, minus: bool, v: u32) -> u64
-    ensures { result ≡ coded first minus v }
-{
-    let w = v as u64;
-    if first {
-        if minus {
-            return FIRST + MINUS + w;
-        }
-        return FIRST + w;
-    }
-    if minus {
-        return MINUS + w;
-    }
-    w
-}
-
-// One byte of the text; a number that ends there is written at n.
-fn turned(s: State, c: Char, n: usize, out: &mut [u64]) -> Turn
-    ensures value { result ≡ turn_of (length out.old) n (step s c) }
+// The byte at a place of the text, where n words stand: a number that ends there is written behind them. The state after it, and how many
+// words then stand.
+fn turned(
+    s: State,
+    c: Char,
+    at: usize,
+    n: usize,
+    out: &mut [u64],
+) -> Result<(State, usize), ScanError>
+    requires { n ≤ length out.old }
+    ensures value { result ≡ turn_of (length out.old) at n (step s c) }
+    ensures bound { IfOk result (λ turn. turn.1 ≤ length out.old) }
     ensures out_after { out.new ≡ turn_into out.old n (step s c) }
 {
     match stepped(s, c) {
-        Step::Go(t) => Turn::Next(t, n),
-        Step::Number(first, minus, v, t) => {
+        Ok((None, next)) => Ok((next, n)),
+        Ok((Some(number), next)) => {
             if out.len() <= n {
-                return Turn::Full;
+                return Err(ScanError::Long);
             }
-            out[n] = coded(first, minus, v);
-            Turn::Next(t, n + 1)
+            out[n] = u64::from(number);
+            Ok((next, n + 1))
         }
-        Step::Stray => Turn::Strange,
-        Step::Over => Turn::Large,
+        Err(Fault::Strange) => Err(ScanError::Strange(at)),
+        Err(Fault::Large) => Err(ScanError::Large(at)),
     }
 }
 
-// The byte at i, and a line end behind the last.
-fn byte_at(text: &[u8], i: usize) -> u8
-    ensures { i ≤ length text.now → result ≡ get_or (text.now ++ 10 ∷ []) i 0 }
-{
-    if i < text.len() { text[i] } else { 10 }
-}
-
-// The numbers of a text, one word each from the start of out.
-pub fn scan(text: &[u8], out: &mut [u64]) -> Scanned
+// The numbers of a text, one word each from the start of out; how many. The text's end is a line end.
+pub fn scan(text: &[u8], out: &mut [u64]) -> Result<usize, ScanError>
     ensures value { result ≡ scanned (length out.old) text.now }
+    ensures bound { IfOk result (λ n. n ≤ length out.old) }
     ensures out_after { out.new ≡ sets out.old 0 (words text.now) }
 {
-    let mut s = State::Gap(true);
+    let mut state = State::Gap(true);
     let mut n = 0;
-    let mut i = 0;
-    while i <= text.len() {
-        match turned(s, char_of(byte_at(text, i)), n, out) {
-            Turn::Next(t, m) => {
-                s = t;
-                n = m;
-                i += 1;
-            }
-            Turn::Strange => return Scanned::Strange(i),
-            Turn::Large => return Scanned::Large(i),
-            Turn::Full => return Scanned::Long,
-        }
+    for (i, c) in text.iter().enumerate() {
+        let (next, count) = turned(state, Char::from(*c), i, n, out)?;
+        state = next;
+        n = count;
     }
-    Scanned::Numbers(n)
+    let (_, count) = turned(state, Char::Line, text.len(), n, out)?;
+    Ok(count)
 }
 
-// The numbers as bytes, from the start of out: those of words that a scan gave, without their marks.
-pub fn as_bytes(words: &[u64], out: &mut [u8]) -> Bytes
+// The numbers as bytes, from the start of out: those of words that a scan gave, without their marks; how many.
+pub fn as_bytes(words: &[u64], out: &mut [u8]) -> Result<usize, BytesError>
     ensures value { result ≡ bytes_answer (length out.old) 0 words.now }
+    ensures bound { IfOk result (λ n. n ≤ length out.old) }
     ensures out_after { out.new ≡ sets out.old 0 (bytes_of words.now) }
 {
-    let mut i = 0;
-    while i < words.len() {
-        let v = words[i] % FIRST;
-        if v > 255 {
-            return Bytes::Large(i + 1);
-        }
+    for (i, w) in words.iter().enumerate() {
+        let Ok(b) = u8::try_from(*w % FIRST) else {
+            return Err(BytesError::Large(i + 1));
+        };
         if out.len() <= i {
-            return Bytes::Long;
+            return Err(BytesError::Long);
         }
-        out[i] = v as u8;
-        i += 1;
+        out[i] = b;
     }
-    Bytes::Count(i)
+    Ok(words.len())
 }

@@ -8,3 +8,7 @@ pub mod IntLaws
 pub mod NatLaws
 pub mod WordLaws
 pub mod ValueLaws
+pub mod OperatorLaws
+pub mod DividingLaws
+pub mod CastLaws
+pub mod ByteLaws

@@ -5,3 +5,4 @@ pub mod Ranges
 pub mod Unfold
 pub mod Rows
 pub mod Words
+pub mod Named

@@ -1,4 +1,5 @@
-// The byte that opens each form of a program stream (01, 'Program stream'): what `specs/Forms.antt` names.
+// The byte that opens each form of a program stream (01, 'Program stream'): what `specs/Forms.antt` names. They are
+// constants, and no enum, since a byte that was read is told apart by a `match` on them, and of many forms by where they lie.
 ghost use Rattle.std.specs.Prelude.{◌≡◌, [], ◌∷◌};
 ghost use Rattle.program.specs.Forms.{when_form, declare_form, update_form, create_form, inv_form, make_form, path_form, int_form};
 ghost use Rattle.program.specs.Forms.{nat_form, bool_form, null_form, this_form, eq_form, mul_form, add_form, and_form, or_form};

@@ -1,5 +1,6 @@
 // Expressions with no expression inside: paths, literals, null, this.
 ghost use Rattle.std.specs.Prelude.{◌≡◌, ℕ, suc, ◌<◌, ◌≤◌, length};
+ghost use Rattle.types.specs.Refusals.{numbered};
 ghost use Rattle.types.specs.Types.{code};
 ghost use Rattle.program.specs.Tree.{Expr};
 ghost use Rattle.program.specs.Reader.{Result, form, ranged, read_word, read_path, read_type, rule_expr};
@@ -7,72 +8,62 @@ ghost use Rattle.judge.specs.Facts.{pushed, travelled, path_of, expr_facts};
 ghost use Rattle.read_exprs.specs.Told.{told, Behind};
 ghost use Rattle.program.specs.Forms.{inv_form, make_form, eq_form};
 
-use crate::read::{ByteRead, ExprRead, PathRead};
+use crate::read::{ExprRead, Names};
 use crate::{path, read};
 use judging::expression;
 use program::form;
-use types::number;
+use types::refusal::Refusal;
 
 // A number of four bytes, pushed as a value of type t.
 fn word(s: &[u8], t: u8, at: usize) -> ExprRead
     requires { at ≤ length s.now }
-    ensures value { result ≡ told (λ (n : ℕ). pushed t) (read_word s.now 4 at) }
+    ensures value { numbered result ≡ told (λ (n : ℕ). pushed t) (read_word s.now 4 at) }
     ensures behind { Behind s.now at result }
 {
-    let f = expression::pushed(t);
     if s.len() - at < 4 {
-        return ExprRead::Refused(number::WRONG_END);
+        return Err(Refusal::WrongEnd);
     }
-    ExprRead::Value(at + 4, f)
+    Ok((at + 4, expression::pushed(t)))
 }
 
 // The byte of a Bool.
 fn bool_byte(s: &[u8], at: usize) -> ExprRead
-    ensures value { result ≡ told (λ (n : ℕ). pushed 2) (ranged s.now 0 2 at) }
+    ensures value { numbered result ≡ told (λ (n : ℕ). pushed 2) (ranged s.now 0 2 at) }
     ensures behind { Behind s.now at result }
 {
-    let r = read::ranged(s, 0, 2, at);
-    let ByteRead::Byte(_, m) = r else {
-        return ExprRead::Refused(read::byte_refusal(r));
-    };
-    ExprRead::Value(m, expression::pushed(types::BOOL))
+    let (_, m) = read::ranged(s, 0, 2, at)?;
+    Ok((m, expression::pushed(types::BOOL)))
 }
 
 // The type of a null, where there are n structs.
 fn null(s: &[u8], n: usize, at: usize) -> ExprRead
-    ensures value { result ≡ told (λ t. pushed (code t)) (read_type s.now n at) }
+    ensures value { numbered result ≡ told (λ t. pushed (code t)) (read_type s.now n at) }
     ensures behind { Behind s.now at result }
 {
-    let r = read::type_byte(s, n, at);
-    let ByteRead::Byte(b, m) = r else {
-        return ExprRead::Refused(read::byte_refusal(r));
-    };
-    ExprRead::Value(m, expression::pushed(b))
+    let (b, m) = read::type_byte(s, n, at)?;
+    Ok((m, expression::pushed(b)))
 }
 
 // A path as an expression.
-fn travel(s: &[u8], ar: &[u8], types: &[u8], own: u8, live: u64, at: usize) -> ExprRead
-    ensures value { result ≡ told (λ p. travelled (suc (length p.1)) (path_of ar.now types.now own live p.0 p.1))
+fn travel(s: &[u8], names: &Names, live: u64, at: usize) -> ExprRead
+    ensures value { numbered result ≡ told (λ p. travelled (suc (length p.1)) (path_of names.now.ar.now names.now.types.now names.now.own live p.0 p.1))
         (read_path s.now at) }
     ensures behind { Behind s.now at result }
 {
-    let r = path::path(s, ar, types, own, live, at);
-    let PathRead::Path(m, n, j) = r else {
-        return ExprRead::Refused(read::path_refusal(r));
-    };
-    ExprRead::Value(m, expression::travelled(n, j))
+    let (m, n, j) = path::path(s, names, live, at)?;
+    Ok((m, expression::travelled(n, j)))
 }
 
-// What stands behind a byte that opens no form with an expression inside.
-pub fn leaf(s: &[u8], ar: &[u8], types: &[u8], own: u8, live: u64, b: u8, at: usize) -> ExprRead
-    requires at_in_bounds { (at ≤ length s.now) × (own < 16) }
+// What stands after a byte that opens no form with an expression inside.
+pub fn leaf(s: &[u8], names: &Names, live: u64, b: u8, at: usize) -> ExprRead
+    requires at_in_bounds { (at ≤ length s.now) × (names.now.own < 16) }
     requires fact { ((b ≡ inv_form → ⊥) × (b ≡ make_form → ⊥)) × (b < eq_form) }
     ensures by_index { (rec : ℕ → Result Expr) (p : ℕ)
-        → result ≡ told (expr_facts ar.now types.now own live) (rule_expr ar.now s.now rec p at (form b)) }
+        → numbered result ≡ told (expr_facts names.now.ar.now names.now.types.now names.now.own live) (rule_expr names.now.ar.now s.now rec p at (form b)) }
     ensures behind { Behind s.now at result }
 {
     if b == form::PATH {
-        return travel(s, ar, types, own, live, at);
+        return travel(s, names, live, at);
     }
     if b == form::INT {
         return word(s, types::INT, at);
@@ -84,10 +75,10 @@ pub fn leaf(s: &[u8], ar: &[u8], types: &[u8], own: u8, live: u64, b: u8, at: us
         return bool_byte(s, at);
     }
     if b == form::NULL {
-        return null(s, ar.len(), at);
+        return null(s, names.ar.len(), at);
     }
     if b == form::THIS {
-        return ExprRead::Value(at, expression::pushed(types::STRUCT + own));
+        return Ok((at, expression::pushed(types::STRUCT + names.own)));
     }
-    ExprRead::Refused(number::WRONG_BYTE)
+    Err(Refusal::WrongByte)
 }

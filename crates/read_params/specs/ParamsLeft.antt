@@ -1,14 +1,12 @@
 -- What is left to a loop that reads a row of types or the lists of structs: once it is read and stands, all does (01, 'Program stream').
-use Rattle.std.specs.Prelude.{ℕ, ◌+◌, ◌-◌, ◌≡◌, refl, List, [], ◌∷◌, set}
+use Rattle.std.specs.Prelude.{Ok, Err, ℕ, ◌+◌, ◌-◌, ◌≡◌, refl, List, [], ◌∷◌, set}
 use Rattle.std.proofs.Common.{ap, sym, ◌∙◌}
 use Rattle.std.proofs.lemmas.List.Edits.{sets}
 use Rattle.types.specs.Types.{Ty}
 use Rattle.types.specs.TypeBytes.{is_type}
 use Rattle.program.specs.Reader.{Result, many, tested, read_type}
 use Rattle.judge.specs.ProgramFacts.{row, types_table}
-use Rattle.read_exprs.specs.declared.read.ByteRead.TheVariants.{Byte, NoByte}
 use Rattle.read_exprs.specs.Told.{byte_told}
-use Rattle.read_params.specs.declared.PlaceRead.TheVariants.{Place, NoPlace}
 use Rattle.read_params.specs.ParamsTold.{read_list, place_told, RowKept, ListKept, ListsKept}
 use Rattle.read_params.specs.ParamsWays.{place_is, place_stops, onto_place, many_none, many_stop, many_more, type_read, type_stop, kept_zero}
 use Rattle.read_params.specs.ParamsWays.{kept_type, kept_lists}
@@ -36,19 +34,19 @@ row_all s S n at room place ts = record { told = refl; kept = λ ts' h. h }
 module _ {s : List ℕ} {S : ℕ} {R : Result (List Ty)} {room₀ place₀ : ℕ} {ts₀ : List ℕ} {n at room place : ℕ} {ts : List ℕ}
     (x : RowLeft s S R room₀ place₀ ts₀ n at room place ts) where
   -- none is, and zeros stand in the room
-  pub row_none : n ≡ 0 → (ts' : List ℕ) → ts' ≡ sets ts place (row room []) → (Place at ≡ place_told R) × (RowKept room₀ place₀ ts₀ ts' R)
+  pub row_none : n ≡ 0 → (ts' : List ℕ) → ts' ≡ sets ts place (row room []) → (Ok at ≡ place_told R) × (RowKept room₀ place₀ ts₀ ts' R)
   row_none e ts' h = let q = many_none (read_type s S) n at e in (sym (ap place_told q) ∙ x.told, x.kept ts' (rw q h))
 
   -- the first is not read
-  pub row_stops : (n ≡ 0 → ⊥) → (e : ℕ) → byte_told (tested s (is_type S) at) ≡ NoByte e → (ts' : List ℕ)
-      → (NoPlace e ≡ place_told R) × (RowKept room₀ place₀ ts₀ ts' R)
+  pub row_stops : (n ≡ 0 → ⊥) → (e : ℕ) → byte_told (tested s (is_type S) at) ≡ Err e → (ts' : List ℕ)
+      → (Err e ≡ place_told R) × (RowKept room₀ place₀ ts₀ ts' R)
   row_stops z e h ts' =
       let t = type_stop s S at e h in
       let q = many_stop (read_type s S) n at t.0 e z t.1 in
       (sym (ap place_told q) ∙ x.told, x.kept ts' (rw q tt))
 
   -- or is, and the others are left
-  pub row_next : (n ≡ 0 → ⊥) → (room ≡ 0 → ⊥) → (b m : ℕ) → byte_told (tested s (is_type S) at) ≡ Byte b m
+  pub row_next : (n ≡ 0 → ⊥) → (room ≡ 0 → ⊥) → (b m : ℕ) → byte_told (tested s (is_type S) at) ≡ Ok (b, m)
       → RowLeft s S R room₀ place₀ ts₀ (n - 1) m (room - 1) (place + 1) (set ts place b)
   row_next z free b m h =
       let t = type_read s S at b m h in
@@ -72,20 +70,20 @@ lists_all s S n at k cs ts = record { told = refl; kept = λ cs' ts' h. h }
 module _ {s : List ℕ} {S : ℕ} {R : Result (List (List Ty))} {k₀ : ℕ} {cs₀ ts₀ : List ℕ} {n at k : ℕ} {cs ts : List ℕ}
     (x : ListsLeft s S R k₀ cs₀ ts₀ n at k cs ts) where
   -- none is
-  pub lists_none : n ≡ 0 → (Place at ≡ place_told R) × (ListsKept k₀ cs₀ cs ts₀ ts R)
+  pub lists_none : n ≡ 0 → (Ok at ≡ place_told R) × (ListsKept k₀ cs₀ cs ts₀ ts R)
   unfolding types_table
   lists_none e = let q = many_none (read_list s S) n at e in (sym (ap place_told q) ∙ x.told, x.kept cs ts (rw q (refl, refl)))
 
   -- the first is not read
-  pub lists_stop : (n ≡ 0 → ⊥) → (e : ℕ) → place_told (read_list s S at) ≡ NoPlace e → (cs' ts' : List ℕ)
-      → (NoPlace e ≡ place_told R) × (ListsKept k₀ cs₀ cs' ts₀ ts' R)
+  pub lists_stop : (n ≡ 0 → ⊥) → (e : ℕ) → place_told (read_list s S at) ≡ Err e → (cs' ts' : List ℕ)
+      → (Err e ≡ place_told R) × (ListsKept k₀ cs₀ cs' ts₀ ts' R)
   lists_stop z e h cs' ts' =
       let t = place_stops (read_list s S at) e h in
       let q = many_stop (read_list s S) n at t.0 e z t.1 in
       (sym (ap place_told q) ∙ x.told, x.kept cs' ts' (rw q tt))
 
   -- or is, and the others are left
-  pub lists_next : (n ≡ 0 → ⊥) → (m : ℕ) → place_told (read_list s S at) ≡ Place m → (cs' ts' : List ℕ) → ListKept k cs cs' ts ts' (read_list s S at)
+  pub lists_next : (n ≡ 0 → ⊥) → (m : ℕ) → place_told (read_list s S at) ≡ Ok m → (cs' ts' : List ℕ) → ListKept k cs cs' ts ts' (read_list s S at)
       → ListsLeft s S R k₀ cs₀ ts₀ (n - 1) m (k + 1) cs' ts'
   lists_next z m h cs' ts' l =
       let t = place_is (read_list s S at) m h in

@@ -1,10 +1,12 @@
 -- Each way through the readers of the parameter lists (01, 'Program stream').
 use Prim.Native.Nat.{ℕ, zero, suc, ◌+◌, ◌-◌, ◌*◌, ◌≤◌}
-use Rattle.std.proofs.Common.{arith, zero-add, sub-one, add-one, ap, ◌∙◌, length-append}
+use borrow.Rule.Slice.PartMut.{put_mid}
+use Rattle.std.proofs.Common.{arith, sym, append_assoc, drop-drop, zero-add, sub-one, add-one, ap, ◌∙◌, length-append}
 use Rattle.std.proofs.Math.Path.{◌≡◌}
-use Rattle.std.specs.Prelude.{refl, drop, set}
+use Rattle.std.specs.Prelude.{Result as Answered, Ok, Err, refl, drop, set}
+use Rattle.answers.specs.AnswerLaws.{ok_parts}
 use mathlib.Core.List.{List, [], ◌∷◌, ◌++◌, map}
-use Rattle.std.proofs.Math.ListN.{length}
+use Rattle.std.proofs.Math.ListN.{length, replicate}
 use Rattle.std.proofs.lemmas.List.{length-map}
 use Rattle.std.proofs.Math.Seq.{sets}
 use Rattle.std.proofs.lemmas.List.Edits.{sets-eq}
@@ -15,11 +17,6 @@ use Rattle.program.specs.Reader.{Result, Result.ok, Result.bad, then, made, many
 use Rattle.judge.specs.declared.Facts.{Facts}
 use Rattle.judge.specs.Facts.{pushed}
 use Rattle.judge.specs.ProgramFacts.{row, types_table}
-use Rattle.read_exprs.specs.declared.read.ByteRead.TheVariants.{Byte, NoByte}
-use Rattle.read_params.specs.declared.PlaceRead.{PlaceRead}
-use Rattle.read_params.specs.declared.PlaceRead.TheVariants.{Place, NoPlace}
-use Rattle.read_params.specs.declared.ParamsRead.TheVariants.{Value}
-use Rattle.read_exprs.specs.declared.read.ExprRead.TheVariants.{Value as Read}
 use Rattle.read_exprs.specs.Told.{told, byte_told}
 use Rattle.read_exprs.specs.ByteWays.{byte_is, type_is}
 use Rattle.read_params.specs.ParamsTold.{read_list, place_told, params_told, PlaceSpan, RowKept, ListKept, ListsKept, ParamsKept}
@@ -27,12 +24,12 @@ use Rattle.read_params.specs.ParamsTold.{read_list, place_told, params_told, Pla
 -- Things in a row --------------------------------------------------------------------
 
 -- what was read, from what was answered
-pub place_is : {A : Type 0} (q : Result A) (m : ℕ) → place_told q ≡ Place m → (a : A) × (q ≡ ok a m)
+pub place_is : {A : Type 0} (q : Result A) (m : ℕ) → place_told q ≡ Ok m → (a : A) × (q ≡ ok a m)
 place_is (ok a k) m e = let h : k ≡ m = cc in (a, rw h)
-place_is (bad p n) m e = let z : ◌≡◌ {A = ℕ} 0 1 = cc in absurd (omega arith)
+place_is (bad p n) m e = cc
 
-pub place_stops : {A : Type 0} (q : Result A) (n : ℕ) → place_told q ≡ NoPlace n → (p : ℕ) × (q ≡ bad p n)
-place_stops (ok a m) n e = let z : ◌≡◌ {A = ℕ} 0 1 = cc in absurd (omega arith)
+pub place_stops : {A : Type 0} (q : Result A) (n : ℕ) → place_told q ≡ Err n → (p : ℕ) × (q ≡ bad p n)
+place_stops (ok a m) n e = cc
 place_stops (bad p k) n e = let h : k ≡ n = cc in (p, rw h)
 
 -- one thing before the others, and where they end
@@ -68,35 +65,34 @@ module _ {A : Type 0} (r : ℕ → Result A) where
     where
       rest : (a : A) (q : Result (List A)) → ((c : List A) (j : ℕ) → q ≡ ok c j → length c ≡ n) → onto a q ≡ ok b m → length b ≡ suc n
       rest a (ok c j) f e = let i : b ≡ a ∷ c = cc in rw i (ap suc (f c j refl))
-      rest a (bad p j) f e = let z : ◌≡◌ {A = ℕ} 0 1 = cc in absurd (omega arith)
+      rest a (bad p j) f e = cc
 
       first : ((k : ℕ) (c : List A) (j : ℕ) → many [] ◌∷◌ r n k ≡ ok c j → length c ≡ n) → (q : Result A)
           → then q (λ a k. onto a (many [] ◌∷◌ r n k)) ≡ ok b m → length b ≡ suc n
       first f (ok a k) e = rest a (many [] ◌∷◌ r n k) (f k) e
-      first f (bad p j) e = let z : ◌≡◌ {A = ℕ} 0 1 = cc in absurd (omega arith)
+      first f (bad p j) e = cc
 
 -- Types ------------------------------------------------------------------------------
 
 -- a byte that was not read ends the reading
-stopped : {B : Type 0} (q : Result ℕ) (f : ℕ → ℕ → Result B) (e : ℕ) → byte_told q ≡ NoByte e → (p : ℕ) × (then q f ≡ bad p e)
+stopped : {B : Type 0} (q : Result ℕ) (f : ℕ → ℕ → Result B) (e : ℕ) → byte_told q ≡ Err e → (p : ℕ) × (then q f ≡ bad p e)
 unfolding then
-stopped (ok a m) f e h = let z : ◌≡◌ {A = ℕ} 0 1 = cc in absurd (omega arith)
+stopped (ok a m) f e h = cc
 stopped (bad p k) f e h = let j : k ≡ e = cc in (p, rw j)
 
 -- a type whose byte was read, or was not
 module _ (s : List ℕ) (S at : ℕ) where
-  pub type_read : (b m : ℕ) → byte_told (tested s (is_type S) at) ≡ Byte b m → (t : Ty) × ((read_type s S at ≡ ok t m) × (code t ≡ b))
+  pub type_read : (b m : ℕ) → byte_told (tested s (is_type S) at) ≡ Ok (b, m) → (t : Ty) × ((read_type s S at ≡ ok t m) × (code t ≡ b))
   type_read b m e = go (read_type s S at) refl (type_is s S at b m e)
     where
-      go : (q : Result Ty) → read_type s S at ≡ q → told (λ t. pushed (code t)) q ≡ Read m (pushed b)
+      go : (q : Result Ty) → read_type s S at ≡ q → told (λ t. pushed (code t)) q ≡ Ok (m, pushed b)
           → (t : Ty) × ((read_type s S at ≡ ok t m) × (code t ≡ b))
       go (ok t k) h e =
-          let i : k ≡ m = cc in
-          let j : pushed (code t) ≡ pushed b = cc in
-          (t, (h ∙ rw i, ap (λ (f : Facts). f.typ) j))
-      go (bad p k) h e = let z : ◌≡◌ {A = ℕ} 0 1 = cc in absurd (omega arith)
+          let i = ok_parts k m (pushed (code t)) (pushed b) e in
+          (t, (h ∙ rw i.0, ap (λ (f : Facts). f.typ) i.1))
+      go (bad p k) h e = cc
 
-  pub type_stop : (e : ℕ) → byte_told (tested s (is_type S) at) ≡ NoByte e → (p : ℕ) × (read_type s S at ≡ bad p e)
+  pub type_stop : (e : ℕ) → byte_told (tested s (is_type S) at) ≡ Err e → (p : ℕ) × (read_type s S at ≡ bad p e)
   unfolding read_type made
   type_stop e h = stopped (tested s (is_type S) at) _ e h
 
@@ -124,20 +120,20 @@ module _ (room place : ℕ) (ts ts' : List ℕ) where
 
 module _ (s : List ℕ) (S at : ℕ) where
   -- how many parameters, which is not read, or is, with their types behind it
-  pub list_stop : (e : ℕ) → byte_told (ranged s 0 9 at) ≡ NoByte e → (p : ℕ) × (read_list s S at ≡ bad p e)
+  pub list_stop : (e : ℕ) → byte_told (ranged s 0 9 at) ≡ Err e → (p : ℕ) × (read_list s S at ≡ bad p e)
   unfolding read_list counted
   list_stop e h = stopped (ranged s 0 9 at) _ e h
 
-  pub list_more : (n m : ℕ) → byte_told (ranged s 0 9 at) ≡ Byte n m → read_list s S at ≡ many [] ◌∷◌ (read_type s S) n m
+  pub list_more : (n m : ℕ) → byte_told (ranged s 0 9 at) ≡ Ok (n, m) → read_list s S at ≡ many [] ◌∷◌ (read_type s S) n m
   unfolding read_list counted then
   list_more n m h = rw (byte_is (ranged s 0 9 at) n m h)
 
   -- the same of the structs and their lists
-  pub params_stop : (e : ℕ) → byte_told (ranged s 1 17 at) ≡ NoByte e → (p : ℕ) × (read_params s at ≡ bad p e)
+  pub params_stop : (e : ℕ) → byte_told (ranged s 1 17 at) ≡ Err e → (p : ℕ) × (read_params s at ≡ bad p e)
   unfolding read_params counted
   params_stop e h = stopped (ranged s 1 17 at) _ e h
 
-  pub params_more : (m : ℕ) → byte_told (ranged s 1 17 at) ≡ Byte S m → read_params s at ≡ many [] ◌∷◌ (read_list s S) S m
+  pub params_more : (m : ℕ) → byte_told (ranged s 1 17 at) ≡ Ok (S, m) → read_params s at ≡ many [] ◌∷◌ (read_list s S) S m
   unfolding read_params counted then read_list
   params_more m h = rw (byte_is (ranged s 1 17 at) S m h)
 
@@ -193,16 +189,30 @@ kept_params r n m cs cs' ts ts' h k = go (many [] ◌∷◌ r n m) refl
     go (bad p i) e g = tt
 
 -- the lists that were read are as many as the structs
-pub params_value : (r : ℕ → Result (List Ty)) (n m next : ℕ) → place_told (many [] ◌∷◌ r n m) ≡ Place next → params_told (many [] ◌∷◌ r n m) ≡ Value next n
+pub params_value : (r : ℕ → Result (List Ty)) (n m next : ℕ) → place_told (many [] ◌∷◌ r n m) ≡ Ok next → params_told (many [] ◌∷◌ r n m) ≡ Ok (next, n)
 params_value r n m next = go (many [] ◌∷◌ r n m) refl
   where
-    go : (q : Result (List (List Ty))) → many [] ◌∷◌ r n m ≡ q → place_told q ≡ Place next → params_told q ≡ Value next n
+    go : (q : Result (List (List Ty))) → many [] ◌∷◌ r n m ≡ q → place_told q ≡ Ok next → params_told q ≡ Ok (next, n)
     go (ok b i) e h = let j : i ≡ next = cc in rw (many_length r n m b i e, j)
-    go (bad p i) e h = let z : ◌≡◌ {A = ℕ} 0 1 = cc in absurd (omega arith)
+    go (bad p i) e h = cc
 
 -- Places -----------------------------------------------------------------------------
 
 -- from an earlier place
-pub span_from : (s : List ℕ) (at from : ℕ) (r : PlaceRead) → at ≤ from → PlaceSpan s from r → PlaceSpan s at r
-span_from s at from (Place m) h x = omega arith
-span_from s at from (NoPlace e) h x = tt
+pub span_from : {E : Type 0} (s : List ℕ) (at from : ℕ) (r : Answered ℕ E) → at ≤ from → PlaceSpan s from r → PlaceSpan s at r
+span_from s at from (Ok m) h x = omega arith
+span_from s at from (Err e) h x = tt
+
+-- zeros alone
+row_zeros : (n : ℕ) → row n [] ≡ replicate n 0
+unfolding row
+row_zeros zero = refl
+row_zeros (suc n) = ap (λ t. 0 ∷ t) (row_zeros n)
+
+-- a part filled with zeros
+pub zeros_kept : (room place k : ℕ) (ts ys : List ℕ) → place + room ≤ length ts → k ≡ room → ys ≡ replicate k 0
+    → put_mid place k ts ys ≡ sets ts place (row room [])
+zeros_kept room place k ts ys h e f =
+    let len : length (row room []) ≡ room = row_length room [] in
+    let row' : ys ≡ row room [] = f ∙ rw e (sym (row_zeros room)) in
+    rw (row', e, sets-eq (row room []) ts place (omega arith), len, drop-drop, append_assoc)

@@ -1,12 +1,11 @@
 -- The rows of a struct's own steps stand behind those of the structs before it (01, 'Names, types, commands'), so that whether it has a step of a name is
 -- asked of them alone.
-use Rattle.std.specs.Prelude.{ℕ, ◌≤◌, ◌≡◌, List, [], ◌∷◌}
+use Rattle.std.specs.Prelude.{Result as Answered, Ok, Err, ℕ, ◌≤◌, ◌≡◌, List, [], ◌∷◌}
 use Rattle.program.specs.Counts.{All}
 use Rattle.directory.specs.declared.Row.{Row}
 use Rattle.directory.specs.Directory.{there}
 use Rattle.directory.specs.Rows.{rows_from}
-use Rattle.read_program.specs.declared.totals.TotalsRead.{TotalsRead}
-use Rattle.read_program.specs.declared.totals.TotalsRead.TheVariants.{Value, Refused}
+use Rattle.read_program.specs.declared.totals.Totals.{Totals}
 
 -- behind a row of struct k stand rows of struct k
 abbrev pub Grouped : ℕ → List Row → Type 0
@@ -19,9 +18,9 @@ pub record Led (k : ℕ) (rs : List Row) : Type 0 where
   pub grouped : Grouped k rs
 
 -- so it is after what was read, too
-abbrev pub Leads : ℕ → TotalsRead → List ℕ → Type 0
-Leads k (Value m t) h = Led k (rows_from h 0 t.steps)
-Leads k (Refused n) h = Unit {0}
+abbrev pub Leads : {E : Type 0} → ℕ → Answered (ℕ × Totals) E → List ℕ → Type 0
+Leads k (Ok (m, t)) h = Led k (rows_from h 0 t.steps)
+Leads k (Err n) h = Unit {0}
 
 -- of n rows, those from i on are not of the name m
 pub record Back (l : List ℕ) (n k m i : ℕ) : Type 0 where

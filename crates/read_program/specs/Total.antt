@@ -1,19 +1,15 @@
 -- What the readers of steps answer for what is read (01, 4 to 8 of 'Numbers from the input'): a value goes with the totals over it,
 -- a refusal with its number. The code has the totals apart from the rows of the step directory, which it is lent.
-use Rattle.std.specs.Prelude.{ℕ, suc, ◌+◌, ◌*◌, ◌<◌, ◌≤◌, max, ◌≡◌, Bool, true, false, ◌||◌, List, length, ltb}
+use Rattle.std.specs.Prelude.{Result as Answered, Ok, Err, ℕ, suc, ◌+◌, ◌*◌, ◌<◌, ◌≤◌, max, ◌≡◌, Bool, true, false, ◌||◌, List, length, ltb}
 use Rattle.types.specs.Limits.{step_commands, max_depth}
 use Rattle.program.specs.Tree.{Step}
 use Rattle.program.specs.Reader.{Result}
-use Rattle.answers.specs.Answers.{Answer, Answer.value, Answer.refused, answer}
+use Rattle.answers.specs.Answers.{Answer, answer}
 use Rattle.directory.specs.Rows.{row_places, rows_from}
 use Rattle.judge.specs.declared.Done.{Done}
 use Rattle.judge.specs.Facts.{worst, named, no_locals, body_facts}
 use Rattle.judge.specs.ProgramFacts.{Totals as Sum, added}
-use Rattle.read_stmts.specs.declared.StmtRead.{StmtRead}
-use Rattle.read_stmts.specs.declared.StmtRead.TheVariants.{Value as StmtValue, Refused as StmtRefused}
 use Rattle.read_program.specs.declared.totals.Totals.{Totals}
-use Rattle.read_program.specs.declared.totals.TotalsRead.{TotalsRead}
-use Rattle.read_program.specs.declared.totals.TotalsRead.TheVariants.{Value, Refused}
 
 -- totals with the rows in lent memory, one for each step so far, and without them
 abbrev pub with : Totals → List ℕ → Sum
@@ -40,29 +36,20 @@ plus t d new = record {
 abbrev pub step_total : List ℕ → List ℕ → ℕ → Sum → Step → Sum
 step_total ar types k T t = added k t.name (body_facts ar types k t.body no_locals) T
 
-abbrev pub totals_read : Answer Sum → TotalsRead
-totals_read (value m T) = Value m (less T)
-totals_read (refused n) = Refused n
+abbrev pub totals_read : Answer Sum → Answer Totals
+totals_read (Ok (m, T)) = Ok (m, less T)
+totals_read (Err n) = Err n
 
-abbrev pub told : {A : Type 0} → (A → Sum) → Result A → TotalsRead
+abbrev pub told : {A : Type 0} → (A → Sum) → Result A → Answer Totals
 told f r = totals_read (answer f r)
-
--- the number of a refusal; of a value, 0
-abbrev pub stmt_refusal : StmtRead → ℕ
-stmt_refusal (StmtValue m d) = 0
-stmt_refusal (StmtRefused n) = n
-
-abbrev pub totals_refusal : TotalsRead → ℕ
-totals_refusal (Value m t) = 0
-totals_refusal (Refused n) = n
 
 -- the rows after it
 abbrev pub Kept : Answer Sum → List ℕ → Type 0
-Kept (value m T) h = rows_from h 0 T.steps ≡ T.rows
-Kept (refused n) h = Unit {0}
+Kept (Ok (m, T)) h = rows_from h 0 T.steps ≡ T.rows
+Kept (Err n) h = Unit {0}
 
 -- what a reader answers, and the rows after it
-abbrev pub Told : {A : Type 0} → (A → Sum) → Result A → TotalsRead → List ℕ → Type 0
+abbrev pub Told : {A : Type 0} → (A → Sum) → Result A → Answer Totals → List ℕ → Type 0
 Told f q r h = (r ≡ told f q) × Kept (answer f q) h
 
 -- no more was counted than bytes were read
@@ -70,9 +57,9 @@ abbrev pub Low : Totals → ℕ → Type 0
 Low t at = (t.steps ≤ at) × (t.commands ≤ at)
 
 -- nor more steps than there may be
-abbrev pub Bounded : List ℕ → ℕ → TotalsRead → Type 0
-Bounded s n (Value m t) = (Low t m) × (m ≤ length s) × (t.steps ≤ n)
-Bounded s n (Refused k) = Unit {0}
+abbrev pub Bounded : {E : Type 0} → List ℕ → ℕ → Answered (ℕ × Totals) E → Type 0
+Bounded s n (Ok (m, t)) = (Low t m) × (m ≤ length s) × (t.steps ≤ n)
+Bounded s n (Err k) = Unit {0}
 
 -- there is room for the rows of n steps more, and they are few
 abbrev pub Free : List ℕ → Totals → ℕ → Type 0

@@ -5,18 +5,18 @@ pub mod totals;
 
 ghost use Rattle.std.specs.Prelude.{◌≡◌, List, [], ℕ, ◌*◌, ◌<◌, ◌≤◌, length};
 ghost use Rattle.types.specs.Limits.{max_structs, max_params};
+ghost use Rattle.types.specs.Refusals.{numbered};
 ghost use Rattle.program.specs.Reader.{read_params, read_items, read_item, read};
 ghost use Rattle.directory.specs.Rows.{directory_places};
 ghost use Rattle.judge.specs.ProgramFacts.{plan, totals_number};
 ghost use Rattle.read_params.specs.ParamsTold.{ParamsKept};
 ghost use Rattle.read_program.specs.Total.{with};
-ghost use Rattle.read_program.specs.Whole.{summary, read_rest, end_told, rest_told, program_told, program_refusal, RestListed, ReadListed};
+ghost use Rattle.read_program.specs.Whole.{summary, read_rest, end_told, rest_told, program_told, RestListed, ReadListed};
 
-use crate::totals::{Totals, TotalsRead};
+use crate::totals::Totals;
 use judging::fault;
-use read_params::ParamsRead;
-use read_schedule::{PlanRead, Planned};
-use types::number;
+use read_schedule::{Planned, Steps};
+use types::refusal::Refusal;
 
 // What comes of a program: its number, where its schedule begins, how many structs, steps and commands it has, and its depth.
 #[derive(Clone, Copy)]
@@ -29,25 +29,15 @@ pub struct Summary {
     pub depth: usize,
 }
 
-// The place behind the parameters, and what comes of the program.
-#[derive(Clone, Copy)]
-pub enum ProgramRead {
-    Value(usize, Summary),
-    Refused(u8),
-}
+// The place after the parameters, and what comes of the program.
+pub type ProgramRead = Result<(usize, Summary), Refusal>;
 
 // 6 where a limit is passed; else the worse fault.
 fn number(t: Totals, p: Planned) -> u8
     ensures { result ≡ totals_number (with t []) (plan p.count p.fault) }
 {
-    if t.over != 0 {
-        return number::OVER_LIMITS;
-    }
-    if types::MAX_COMMANDS < t.commands {
-        return number::OVER_LIMITS;
-    }
-    if types::SCHEDULE_ITEMS < p.count {
-        return number::OVER_LIMITS;
+    if t.over != 0 || types::MAX_COMMANDS < t.commands || types::SCHEDULE_ITEMS < p.count {
+        return u8::from(Refusal::OverLimits);
     }
     fault::worst(t.fault, p.fault)
 }
@@ -69,29 +59,28 @@ fn summed(structs: u8, at: usize, t: Totals, p: Planned) -> Summary
 fn end(s: &[u8], rows: &[u16], structs: u8, behind: usize, t: Totals, at: usize) -> ProgramRead
     requires { t.steps < 256 }
     ensures { (ar : List ℕ) → length ar ≡ structs
-        → result ≡ end_told behind at structs (with t rows.now) s.now (read_items ar s.now (read_item ar s.now 8) at) }
+        → numbered result ≡ end_told behind at structs (with t rows.now) s.now (read_items ar s.now (read_item ar s.now 8) at) }
 {
-    let r = read_schedule::items(s, rows, t.steps as u8, structs, at, types::FIX_LEVELS);
-    let PlanRead::Value(m, p) = r else {
-        return ProgramRead::Refused(read_schedule::plan_refusal(r));
+    let planned_by = Steps {
+        rows,
+        steps: t.steps as u8,
+        structs,
     };
+    let (m, p) = read_schedule::items(s, &planned_by, at, types::FIX_LEVELS)?;
     if m < s.len() {
-        return ProgramRead::Refused(number::WRONG_END);
+        return Err(Refusal::WrongEnd);
     }
-    ProgramRead::Value(behind, summed(structs, at, t, p))
+    Ok((behind, summed(structs, at, t, p)))
 }
 
 // The steps of all structs, and the schedule.
 fn rest(s: &[u8], ar: &[u8], types: &[u8], rows: &mut [u16], structs: u8, at: usize) -> ProgramRead
     requires ar_len { (length ar.now ≡ structs) × (structs ≤ max_structs) × (at ≤ length s.now) }
     requires s_len_bound { (length s.now < 65536) × (directory_places ≤ length rows.old) }
-    ensures value { result ≡ rest_told at ar.now types.now s.now (read_rest ar.now s.now at) }
+    ensures value { numbered result ≡ rest_told at ar.now types.now s.now (read_rest ar.now s.now at) }
     ensures rest_listed { RestListed ar.now types.now (read_rest ar.now s.now at) rows.new }
 {
-    let r = totals::structs(s, ar, types, rows, structs, totals::none(), at);
-    let TotalsRead::Value(m, t) = r else {
-        return ProgramRead::Refused(totals::totals_refusal(r));
-    };
+    let (m, t) = totals::structs(s, ar, types, rows, structs, totals::none(), at)?;
     end(s, rows, structs, at, t, m)
 }
 
@@ -101,25 +90,12 @@ fn rest(s: &[u8], ar: &[u8], types: &[u8], rows: &mut [u16], structs: u8, at: us
 pub fn program(s: &[u8], counts: &mut [u8], types: &mut [u8], rows: &mut [u16]) -> ProgramRead
     requires counts_len { (length counts.old ≡ max_structs) × (length types.old ≡ max_structs * max_params) }
     requires s_len_bound { (length s.now < 65536) × (directory_places ≤ length rows.old) }
-    ensures value { result ≡ program_told s.now (read s.now) }
+    ensures value { numbered result ≡ program_told s.now (read s.now) }
     ensures params_kept { ParamsKept counts.old counts.new types.old types.new (read_params s.now 0) }
     ensures read_listed { ReadListed (read s.now) rows.new }
 {
-    let r = read_params::params(s, counts, types);
-    let ParamsRead::Value(at, structs) = r else {
-        return ProgramRead::Refused(read_params::params_refusal(r));
-    };
+    let (at, structs) = read_params::params(s, counts, types)?;
     let n = structs as usize;
     let end = types::MAX_PARAMS * n;
     rest(s, &counts[..n], &types[..end], rows, structs, at)
-}
-
-// The number of a refusal, for a caller whose own answer is of another type; 0 where a value was read.
-pub fn program_refusal(r: ProgramRead) -> u8
-    ensures { result ≡ program_refusal r }
-{
-    let ProgramRead::Refused(n) = r else {
-        return 0;
-    };
-    n
 }

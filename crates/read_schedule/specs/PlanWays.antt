@@ -1,8 +1,8 @@
 -- Each way through the readers of the schedule (01, 'Program stream', and number 7).
 use Prim.Native.Nat.{ℕ, zero, suc, ◌+◌, ◌-◌, ◌<◌, ◌≤◌, ◌^◌}
 use native.Mathlib.Omega.{arith}
-use Rattle.std.proofs.Common.{sub-one, add-one, subst, ◌∙◌}
-use Rattle.std.specs.Prelude.{◌≡◌, true, false, List, length, get_or}
+use Rattle.std.proofs.Common.{sub-one, add-one, ◌∙◌}
+use Rattle.std.specs.Prelude.{Result as Answered, Ok, Err, ◌≡◌, true, false, List, length, get_or}
 use Rattle.std.proofs.Math.Path.{refl, ap, sym}
 use Rattle.program.specs.Tree.{Item, Item.call, Item.fix, Items, Items.stop, Items.item}
 use Rattle.program.specs.Reader.{Result, Result.ok, Result.bad, then, pair, made, many, opened, counted, lookup, item_sort, ItemSort}
@@ -14,12 +14,9 @@ use Rattle.directory.specs.Directory.{there}
 use Rattle.judge.specs.Facts.{named}
 use Rattle.judge.specs.ProgramFacts.{Planned as Plan, plan, had, joined, item_plan, items_plan}
 use Rattle.judge.proofs.Laws.FollowLaws.{joined_assoc, none_joined, joined_none}
-use Rattle.answers.specs.Answers.{Answer, Answer.value, Answer.refused, answer}
-use Rattle.answers.specs.AnswerLaws.{row_none, row_stop, row_more}
-use Rattle.read_exprs.specs.declared.read.ByteRead.TheVariants.{Byte, NoByte}
+use Rattle.answers.specs.Answers.{Answer, answer}
+use Rattle.answers.specs.AnswerLaws.{ok_parts, row_none, row_stop, row_more}
 use Rattle.read_schedule.specs.declared.Planned.{Planned}
-use Rattle.read_schedule.specs.declared.PlanRead.{PlanRead}
-use Rattle.read_schedule.specs.declared.PlanRead.TheVariants.{Value, Refused}
 use Rattle.read_exprs.specs.Told.{byte_told}
 use Rattle.read_exprs.specs.ByteWays.{byte_is, byte_stops, byte_in, byte_out}
 use Rattle.read_schedule.specs.PlanTold.{planned, plan_of, plan_read, told, after, fixed, read_call_in, Span, Room}
@@ -39,41 +36,40 @@ module _ (rs : List Row) (n k c : ℕ) where
   had_on h e = let s : c - k ≡ suc (c - (k + 1)) = omega arith in rw (s, add-one) (rw (had, e))
 
 -- what was answered, from the enum that holds it
-pub plan_value : (x : Answer Plan) (m : ℕ) (p : Planned) → plan_read x ≡ Value m p → x ≡ value m (plan_of p)
-plan_value (value k q) m p e =
-    let h : k ≡ m = cc in
-    let i : planned q ≡ p = cc in
-    subst (λ p. value k q ≡ value m (plan_of p)) i (ap (λ k. value k q) h)
-plan_value (refused k) m p e = let z : ◌≡◌ {A = ℕ} 0 1 = cc in absurd (omega arith)
+pub plan_value : (x : Answer Plan) (m : ℕ) (p : Planned) → plan_read x ≡ Ok (m, p) → x ≡ Ok (m, plan_of p)
+plan_value (Ok (k, q)) m p e =
+    let h = ok_parts k m (planned q) p e in
+    rw (← h.1, h.0)
+plan_value (Err k) m p e = cc
 
-pub plan_refused : (x : Answer Plan) (n : ℕ) → plan_read x ≡ Refused n → x ≡ refused n
-plan_refused (value k q) n e = let z : ◌≡◌ {A = ℕ} 0 1 = cc in absurd (omega arith)
-plan_refused (refused k) n e = cc
+pub plan_refused : (x : Answer Plan) (n : ℕ) → plan_read x ≡ Err n → x ≡ Err n
+plan_refused (Ok (k, q)) n e = cc
+plan_refused (Err k) n e = cc
 
 module _ (rs : List Row) (S : ℕ) where
   -- a step of every struct: its name is not read, or is
   module _ (s : List ℕ) (at : ℕ) where
-    pub call_stop : (e : ℕ) → byte_told (ranged s 0 32 at) ≡ NoByte e → told (item_plan rs S) (made call (ranged s 0 32 at)) ≡ Refused e
+    pub call_stop : (e : ℕ) → byte_told (ranged s 0 32 at) ≡ Err e → told (item_plan rs S) (made call (ranged s 0 32 at)) ≡ Err e
     unfolding made then
     call_stop e p = rw (byte_stops (ranged s 0 32 at) e p).1
 
-    pub call_read : (n m : ℕ) → byte_told (ranged s 0 32 at) ≡ Byte n m
-        → told (item_plan rs S) (made call (ranged s 0 32 at)) ≡ Value m (planned (plan 1 (named (had rs n 0 S))))
+    pub call_read : (n m : ℕ) → byte_told (ranged s 0 32 at) ≡ Ok (n, m)
+        → told (item_plan rs S) (made call (ranged s 0 32 at)) ≡ Ok (m, planned (plan 1 (named (had rs n 0 S))))
     unfolding made then item_plan
     call_read n m p = rw (byte_is (ranged s 0 32 at) n m p)
 
     -- a step of one struct: the struct is not read, or is and its name is not, or both are
-    pub call_in_stop : (e : ℕ) → byte_told (ranged s 0 S at) ≡ NoByte e → told (item_plan rs S) (read_call_in s S at) ≡ Refused e
+    pub call_in_stop : (e : ℕ) → byte_told (ranged s 0 S at) ≡ Err e → told (item_plan rs S) (read_call_in s S at) ≡ Err e
     unfolding read_call_in made pair then
     call_in_stop e p = rw (byte_stops (ranged s 0 S at) e p).1
 
-    pub call_in_cut : (k m e : ℕ) → byte_told (ranged s 0 S at) ≡ Byte k m → byte_told (ranged s 0 32 m) ≡ NoByte e
-        → told (item_plan rs S) (read_call_in s S at) ≡ Refused e
+    pub call_in_cut : (k m e : ℕ) → byte_told (ranged s 0 S at) ≡ Ok (k, m) → byte_told (ranged s 0 32 m) ≡ Err e
+        → told (item_plan rs S) (read_call_in s S at) ≡ Err e
     unfolding read_call_in made pair then
     call_in_cut k m e p q = rw (byte_is (ranged s 0 S at) k m p, (byte_stops (ranged s 0 32 m) e q).1)
 
-    pub call_in_read : (k m n i : ℕ) → byte_told (ranged s 0 S at) ≡ Byte k m → byte_told (ranged s 0 32 m) ≡ Byte n i
-        → told (item_plan rs S) (read_call_in s S at) ≡ Value i (planned (plan 1 (named (there rs k n))))
+    pub call_in_read : (k m n i : ℕ) → byte_told (ranged s 0 S at) ≡ Ok (k, m) → byte_told (ranged s 0 32 m) ≡ Ok (n, i)
+        → told (item_plan rs S) (read_call_in s S at) ≡ Ok (i, planned (plan 1 (named (there rs k n))))
     unfolding read_call_in made pair then item_plan
     call_in_read k m n i p q = rw (byte_is (ranged s 0 S at) k m p, byte_is (ranged s 0 32 m) n i q)
 
@@ -96,36 +92,36 @@ module _ (rs : List Row) (S : ℕ) where
     row_begins n at = go (many stop item r n at)
       where
         go : (q : Result Items) → answer (λ is. joined (plan 0 0) (items_plan rs S is)) q ≡ answer (items_plan rs S) q
-        go (ok is m) = ap (value m) (none_joined (items_plan rs S is))
+        go (ok is m) = ap (λ t. Ok (m, t)) (none_joined (items_plan rs S is))
         go (bad p k) = refl
 
     module _ (p : Plan) (n at : ℕ) where
-      pub row_ends : n ≡ 0 → row p n at ≡ value at p
+      pub row_ends : n ≡ 0 → row p n at ≡ Ok (at, p)
       unfolding items_plan
-      row_ends e = row_none stop item r (λ p. item_plan rs S) joined (λ p is. joined p (items_plan rs S is)) goes p n at e ∙ ap (value at) (joined_none p)
+      row_ends e = row_none stop item r (λ p. item_plan rs S) joined (λ p is. joined p (items_plan rs S is)) goes p n at e ∙ ap (λ t. Ok (at, t)) (joined_none p)
 
-      pub row_refused : (n ≡ 0 → ⊥) → (e : ℕ) → told (item_plan rs S) (r at) ≡ Refused e → row p n at ≡ refused e
+      pub row_refused : (n ≡ 0 → ⊥) → (e : ℕ) → told (item_plan rs S) (r at) ≡ Err e → row p n at ≡ Err e
       row_refused z e h = row_stop stop item r (λ p. item_plan rs S) joined (λ p is. joined p (items_plan rs S is)) goes p n at z e (plan_refused _ e h)
 
-      pub row_goes : (n ≡ 0 → ⊥) → (m : ℕ) (q : Planned) → told (item_plan rs S) (r at) ≡ Value m q → row p n at ≡ row (joined p (plan_of q)) (n - 1) m
+      pub row_goes : (n ≡ 0 → ⊥) → (m : ℕ) (q : Planned) → told (item_plan rs S) (r at) ≡ Ok (m, q) → row p n at ≡ row (joined p (plan_of q)) (n - 1) m
       row_goes z m q h = row_more stop item r (λ p. item_plan rs S) joined (λ p is. joined p (items_plan rs S is)) goes p n at z m _ (plan_value _ m q h)
 
 -- an item more than those inside
-pub fix_value : (n : ℕ) (p : Planned) → ◌≡◌ {A = PlanRead} (Value n (record { count = p.count + 1; fault = p.fault })) (after fixed (Value n p))
+pub fix_value : (n : ℕ) (p : Planned) → ◌≡◌ {A = Answer Planned} (Ok (n, record { count = p.count + 1; fault = p.fault })) (after fixed (Ok (n, p)))
 unfolding fixed
 fix_value n p = rw add-one
 
 -- the count of the items, which is not read, or is, with them behind it
 module _ (ar s : List ℕ) (r : ℕ → Result Item) (at : ℕ) where
-  pub items_stop : (f : Items → Plan) (e : ℕ) → byte_told (ranged s 1 33 at) ≡ NoByte e → told f (read_items ar s r at) ≡ Refused e
+  pub items_stop : (f : Items → Plan) (e : ℕ) → byte_told (ranged s 1 33 at) ≡ Err e → told f (read_items ar s r at) ≡ Err e
   unfolding read_items counted then
   items_stop f e p = rw (byte_stops (ranged s 1 33 at) e p).1
 
-  items_more : (n m : ℕ) → byte_told (ranged s 1 33 at) ≡ Byte n m → read_items ar s r at ≡ many stop item r n m
+  items_more : (n m : ℕ) → byte_told (ranged s 1 33 at) ≡ Ok (n, m) → read_items ar s r at ≡ many stop item r n m
   unfolding read_items counted then
   items_more n m p = rw (byte_is (ranged s 1 33 at) n m p)
 
-  pub items_row : (rs : List Row) (S n m : ℕ) → byte_told (ranged s 1 33 at) ≡ Byte n m
+  pub items_row : (rs : List Row) (S n m : ℕ) → byte_told (ranged s 1 33 at) ≡ Ok (n, m)
       → plan_read (row rs S r (plan 0 0) n m) ≡ told (items_plan rs S) (read_items ar s r at)
   items_row rs S n m e = ap plan_read (row_begins rs S r n m) ∙ ap (told (items_plan rs S)) (sym (items_more n m e))
 
@@ -189,21 +185,21 @@ module _ (ar s : List ℕ) (d at : ℕ) where
 
 module _ (s : List ℕ) where
   -- from an earlier place
-  pub span_less : (lo from lo' from' : ℕ) (r : PlanRead) → lo' ≤ lo → from' ≤ from → Span s lo from r → Span s lo' from' r
-  span_less lo from lo' from' (Value n p) h k x = omega arith
-  span_less lo from lo' from' (Refused e) h k x = tt
+  pub span_less : {E : Type 0} (lo from lo' from' : ℕ) (r : Answered (ℕ × Planned) E) → lo' ≤ lo → from' ≤ from → Span s lo from r → Span s lo' from' r
+  span_less lo from lo' from' (Ok (n, p)) h k x = omega arith
+  span_less lo from lo' from' (Err e) h k x = tt
 
   -- around a Fix
-  pub span_fixed : (at : ℕ) (r : PlanRead) → Span s (at + 1 + 1) (at + 1) r → Span s (at + 1) at (after fixed r)
+  pub span_fixed : (at : ℕ) (r : Answer Planned) → Span s (at + 1 + 1) (at + 1) r → Span s (at + 1) at (after fixed r)
   unfolding fixed
-  span_fixed at (Value n p) x = omega arith
-  span_fixed at (Refused e) x = tt
+  span_fixed at (Ok (n, p)) x = omega arith
+  span_fixed at (Err e) x = tt
 
-  pub room : (lo from : ℕ) (r : PlanRead) → length s < 2 ^ 64 → 1 ≤ from → Span s lo from r → Room r
-  room lo from (Value n p) g h x = omega arith
-  room lo from (Refused e) g h x = tt
+  pub room : {E : Type 0} (lo from : ℕ) (r : Answered (ℕ × Planned) E) → length s < 2 ^ 64 → 1 ≤ from → Span s lo from r → Room r
+  room lo from (Ok (n, p)) g h x = omega arith
+  room lo from (Err e) g h x = tt
 
   -- one item more among those in a row
-  pub span_joined : (from at m : ℕ) (p q : Planned) → p.count + from ≤ at → Span s (at + 1) at (Value m q) → (joined (plan_of p) (plan_of q)).count + from ≤ m
+  pub span_joined : (from at m : ℕ) (p q : Planned) → p.count + from ≤ at → Span {E = ℕ} s (at + 1) at (Ok (m, q)) → (joined (plan_of p) (plan_of q)).count + from ≤ m
   unfolding joined
   span_joined from at m p q h x = omega arith

@@ -2,19 +2,19 @@
 #![tactic(auto)]
 
 ghost use Rattle.std.specs.Prelude.{◌≡◌, List, ℕ, ◌+◌, ◌<◌, ◌^◌, length};
+ghost use Rattle.types.specs.Refusals.{numbered};
 ghost use Rattle.program.specs.Tree.{Item.call};
 ghost use Rattle.program.specs.Reader.{made, ranged, read_items, read_item};
 ghost use Rattle.directory.specs.Rows.{rows_from};
 ghost use Rattle.judge.specs.Facts.{named};
 ghost use Rattle.judge.specs.ProgramFacts.{plan, joined, had, item_plan, items_plan};
-ghost use Rattle.read_schedule.specs.PlanTold.{planned, told, plan_refusal, fixed, read_call_in, after, Ahead, Room};
+ghost use Rattle.read_schedule.specs.PlanTold.{planned, told, read_call_in, Ahead};
 
 use directory::rows::there;
 use judging::fault;
 use program::form;
 use read_exprs::read;
-use read_exprs::read::ByteRead;
-use types::number;
+use types::refusal::Refusal;
 
 // How many items, those inside a Fix among them, and a fault, 0 or 7.
 #[derive(Clone, Copy)]
@@ -23,33 +23,25 @@ pub struct Planned {
     pub fault: u8,
 }
 
-// The next place, and what is planned.
+// What a schedule is planned by: the rows of the step directory, how many steps they are of, and how many structs there are.
 #[derive(Clone, Copy)]
-pub enum PlanRead {
-    Value(usize, Planned),
-    Refused(u8),
+pub struct Steps<'a> {
+    pub rows: &'a [u16],
+    pub steps: u8,
+    pub structs: u8,
 }
 
-// The number of a refusal, for a reader whose own answer is of another type; 0 where a value was read.
-pub fn plan_refusal(r: PlanRead) -> u8
-    ensures { result ≡ plan_refusal r }
-{
-    let PlanRead::Refused(n) = r else {
-        return 0;
-    };
-    n
-}
+// The next place, and what is planned.
+pub type PlanRead = Result<(usize, Planned), Refusal>;
 
 // Whether some struct has the step n.
-fn had(rows: &[u16], steps: u8, n: u8, structs: u8) -> bool
-    ensures { result ≡ had (rows_from rows.now 0 steps) n 0 structs }
+fn had(t: &Steps, n: u8) -> bool
+    ensures { result ≡ had (rows_from t.now.rows.now 0 t.now.steps) n 0 t.now.structs }
 {
-    let mut k = 0;
-    while k < structs {
-        if there(rows, steps, k, n) {
+    for k in 0..t.structs {
+        if there(t.rows, t.steps, k, n) {
             return true;
         }
-        k = k + 1;
     }
     false
 }
@@ -65,51 +57,27 @@ fn one(there: bool) -> Planned
 }
 
 // A step of every struct that has it.
-fn call(s: &[u8], rows: &[u16], steps: u8, structs: u8, at: usize) -> PlanRead
-    ensures value { result ≡ told (item_plan (rows_from rows.now 0 steps) structs) (made call (ranged s.now 0 32 at)) }
+fn call(s: &[u8], t: &Steps, at: usize) -> PlanRead
+    ensures value { numbered result ≡ told (item_plan (rows_from t.now.rows.now 0 t.now.steps) t.now.structs)
+        (made call (ranged s.now 0 32 at)) }
     ensures ahead { Ahead s.now at result }
 {
-    let r = read::ranged(s, 0, types::STEP_NAMES, at);
-    let ByteRead::Byte(n, m) = r else {
-        return PlanRead::Refused(read::byte_refusal(r));
-    };
-    PlanRead::Value(m, one(had(rows, steps, n, structs)))
+    let (n, m) = read::ranged(s, 0, types::STEP_NAMES, at)?;
+    Ok((m, one(had(t, n))))
 }
 
 // A step of one struct.
-fn call_in(s: &[u8], rows: &[u16], steps: u8, structs: u8, at: usize) -> PlanRead
-    ensures value { result ≡ told (item_plan (rows_from rows.now 0 steps) structs) (read_call_in s.now structs at) }
+fn call_in(s: &[u8], t: &Steps, at: usize) -> PlanRead
+    ensures value { numbered result ≡ told (item_plan (rows_from t.now.rows.now 0 t.now.steps) t.now.structs)
+        (read_call_in s.now t.now.structs at) }
     ensures ahead { Ahead s.now at result }
 {
-    let r = read::ranged(s, 0, structs as usize, at);
-    let ByteRead::Byte(k, m) = r else {
-        return PlanRead::Refused(read::byte_refusal(r));
-    };
-    let q = read::ranged(s, 0, types::STEP_NAMES, m);
-    let ByteRead::Byte(n, next) = q else {
-        return PlanRead::Refused(read::byte_refusal(q));
-    };
-    PlanRead::Value(next, one(there(rows, steps, k, n)))
+    let (k, m) = read::ranged(s, 0, usize::from(t.structs), at)?;
+    let (n, next) = read::ranged(s, 0, types::STEP_NAMES, m)?;
+    Ok((next, one(there(t.rows, t.steps, k, n))))
 }
 
-// A Fix around what was read.
-fn around(r: PlanRead) -> PlanRead
-    requires { Room r }
-    ensures { result ≡ after fixed r }
-{
-    let PlanRead::Value(n, p) = r else {
-        return r;
-    };
-    PlanRead::Value(
-        n,
-        Planned {
-            count: p.count + 1,
-            fault: p.fault,
-        },
-    )
-}
-
-// Items, and another behind them.
+// Items, and another after them.
 fn joined(p: Planned, q: Planned) -> Planned
     requires { p.count + q.count < 2 ^ 64 }
     ensures { result ≡ planned (joined (plan p.count p.fault) (plan q.count q.fault)) }
@@ -122,52 +90,50 @@ fn joined(p: Planned, q: Planned) -> Planned
 
 // An item with at most depth levels of Fix.
 #[cycle(item_items)]
-fn item(s: &[u8], rows: &[u16], steps: u8, structs: u8, at: usize, depth: usize) -> PlanRead
-    ensures by_index { (ar : List ℕ) → length ar ≡ structs → result ≡ told (item_plan (rows_from rows.now 0 steps) structs) (read_item ar s.now depth at) }
+fn item(s: &[u8], t: &Steps, at: usize, depth: usize) -> PlanRead
+    ensures by_index { (ar : List ℕ) → length ar ≡ t.now.structs
+        → numbered result ≡ told (item_plan (rows_from t.now.rows.now 0 t.now.steps) t.now.structs) (read_item ar s.now depth at) }
     ensures ahead { Ahead s.now at result }
 {
     if s.len() <= at {
-        return PlanRead::Refused(number::WRONG_END);
+        return Err(Refusal::WrongEnd);
     }
     let b = s[at];
     let k = at + 1;
     if b == form::CALL {
-        return call(s, rows, steps, structs, k);
+        return call(s, t, k);
     }
     if b == form::CALL_IN {
-        return call_in(s, rows, steps, structs, k);
+        return call_in(s, t, k);
     }
-    if b != form::FIX {
-        return PlanRead::Refused(number::WRONG_BYTE);
+    if b != form::FIX || depth == 0 {
+        return Err(Refusal::WrongByte);
     }
-    if depth == 0 {
-        return PlanRead::Refused(number::WRONG_BYTE);
-    }
-    around(items(s, rows, steps, structs, k, depth - 1))
+    let (next, p) = items(s, t, k, depth - 1)?;
+    Ok((
+        next,
+        Planned {
+            count: p.count + 1,
+            fault: p.fault,
+        },
+    ))
 }
 
 // The items of the schedule or of a Fix, with at most depth levels of Fix inside; the rows, one for each step, tell which steps the structs have.
 #[cycle(item_items)]
-pub fn items(s: &[u8], rows: &[u16], steps: u8, structs: u8, at: usize, depth: usize) -> PlanRead
-    ensures by_index { (ar : List ℕ) → length ar ≡ structs
-        → result ≡ told (items_plan (rows_from rows.now 0 steps) structs) (read_items ar s.now (read_item ar s.now depth) at) }
+pub fn items(s: &[u8], t: &Steps, at: usize, depth: usize) -> PlanRead
+    ensures by_index { (ar : List ℕ) → length ar ≡ t.now.structs
+        → numbered result ≡ told (items_plan (rows_from t.now.rows.now 0 t.now.steps) t.now.structs)
+        (read_items ar s.now (read_item ar s.now depth) at) }
     ensures ahead { Ahead s.now at result }
 {
-    let r = read::ranged(s, 1, types::MAX_ITEMS + 1, at);
-    let ByteRead::Byte(n, m) = r else {
-        return PlanRead::Refused(read::byte_refusal(r));
-    };
+    let (n, m) = read::ranged(s, 1, types::MAX_ITEMS + 1, at)?;
     let mut all = Planned { count: 0, fault: 0 };
     let mut next = m;
-    let mut left = n;
-    while 0 < left {
-        let q = item(s, rows, steps, structs, next, depth);
-        let PlanRead::Value(behind, p) = q else {
-            return q;
-        };
+    for i in 0..n {
+        let (behind, p) = item(s, t, next, depth)?;
         all = joined(all, p);
         next = behind;
-        left = left - 1;
     }
-    PlanRead::Value(next, all)
+    Ok((next, all))
 }

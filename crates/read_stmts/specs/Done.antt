@@ -1,35 +1,18 @@
 -- What the readers of statements answer for what is read (01, 4 and 5 of 'Numbers from the input'), and where the next place
 -- lies, with how much was computed on the way.
-use Rattle.std.specs.Prelude.{ℕ, suc, ◌+◌, ◌<◌, ◌≤◌, ◌^◌, List, length}
+use Rattle.std.specs.Prelude.{Result as Answered, Ok, Err, ℕ, suc, ◌+◌, ◌<◌, ◌≤◌, ◌^◌, List, length}
 use Rattle.types.specs.Limits.{expr_levels}
 use Rattle.types.specs.Types.{Ty, code}
 use Rattle.program.specs.Tree.{Var, Expr, Exprs, Stmts}
 use Rattle.program.specs.Reader.{Result, pair, read_local, read_expr}
-use Rattle.answers.specs.Answers.{Answer, Answer.value, Answer.refused, answer}
+use Rattle.answers.specs.Answers.{Answer, answer}
 use Rattle.judge.specs.declared.Facts.{Facts}
 use Rattle.judge.specs.declared.Scope.{Scope}
 use Rattle.judge.specs.declared.Done.{Done}
 use Rattle.judge.specs.Facts.{result, path_of, expr_facts, args_facts, branched, declared, updated, created, body_facts}
-use Rattle.read_exprs.specs.declared.read.ExprRead.{ExprRead}
-use Rattle.read_exprs.specs.declared.read.ExprRead.TheVariants.{Value as ExprValue, Refused as ExprRefused}
-use Rattle.read_stmts.specs.declared.StmtRead.{StmtRead}
-use Rattle.read_stmts.specs.declared.StmtRead.TheVariants.{Value, Refused}
 
-abbrev pub stmt_read : Answer Done → StmtRead
-stmt_read (value m d) = Value m d
-stmt_read (refused n) = Refused n
-
-abbrev pub done : {A : Type 0} → (A → Done) → Result A → StmtRead
-done f r = stmt_read (answer f r)
-
--- what is made of an expression, or of statements, and a refusal as it is
-abbrev pub turn : (Facts → Done) → ExprRead → StmtRead
-turn h (ExprValue n f) = Value n (h f)
-turn h (ExprRefused k) = Refused k
-
-abbrev pub after : (Done → Done) → StmtRead → StmtRead
-after h (Value n d) = Value n (h d)
-after h (Refused k) = Refused k
+abbrev pub done : {A : Type 0} → (A → Done) → Result A → Answer Done
+done f r = answer f r
 
 -- a construct whose label stays
 abbrev pub labelled : Scope → Facts → Done
@@ -57,25 +40,25 @@ module _ (ar types : List ℕ) (own : ℕ) (c : Scope) where
   when_facts p = branched c (expr_facts ar types own c.live p.0) (body_facts ar types own p.1 c)
 
 -- the next place lies from lo on, and no more was computed than bytes were read from `from` on and more
-abbrev pub DoneSpan : List ℕ → ℕ → ℕ → ℕ → StmtRead → Type 0
-DoneSpan s lo from more (Value n d) =
+abbrev pub DoneSpan : {E : Type 0} → List ℕ → ℕ → ℕ → ℕ → Answered (ℕ × Done) E → Type 0
+DoneSpan s lo from more (Ok (n, d)) =
     (lo ≤ n) × (n ≤ length s) × (d.size + from ≤ n + more) × (d.height + from ≤ n + more) × (d.growth + from ≤ n + more)
-DoneSpan s lo from more (Refused k) = Unit {0}
+DoneSpan s lo from more (Err k) = Unit {0}
 
 -- of a statement; of any number of them; of a count and so many; of what stands behind the byte of a statement
-abbrev pub DoneAhead : List ℕ → ℕ → StmtRead → Type 0
+abbrev pub DoneAhead : {E : Type 0} → List ℕ → ℕ → Answered (ℕ × Done) E → Type 0
 DoneAhead s at r = DoneSpan s (at + 1) at 0 r
 
-abbrev pub DoneWithin : List ℕ → ℕ → StmtRead → Type 0
+abbrev pub DoneWithin : {E : Type 0} → List ℕ → ℕ → Answered (ℕ × Done) E → Type 0
 DoneWithin s at r = DoneSpan s at at 0 r
 
-abbrev pub DoneBody : List ℕ → ℕ → StmtRead → Type 0
+abbrev pub DoneBody : {E : Type 0} → List ℕ → ℕ → Answered (ℕ × Done) E → Type 0
 DoneBody s at r = DoneSpan s (at + 1) (at + 1) 0 r
 
-abbrev pub DoneBehind : List ℕ → ℕ → StmtRead → Type 0
+abbrev pub DoneBehind : {E : Type 0} → List ℕ → ℕ → Answered (ℕ × Done) E → Type 0
 DoneBehind s at r = DoneSpan s at at 1 r
 
 -- two of each together are still numbers of 64 bits
-abbrev pub RoomDone : StmtRead → Type 0
-RoomDone (Value n d) = (d.size < 2 ^ 63) × (d.height < 2 ^ 63) × (d.growth < 2 ^ 63)
-RoomDone (Refused k) = Unit {0}
+abbrev pub RoomDone : {E : Type 0} → Answered (ℕ × Done) E → Type 0
+RoomDone (Ok (n, d)) = (d.size < 2 ^ 63) × (d.height < 2 ^ 63) × (d.growth < 2 ^ 63)
+RoomDone (Err k) = Unit {0}

@@ -1,6 +1,6 @@
 -- How reading a text ends (02 §1), by the stream that it is read as: 17 where there is none, 13 for an output that is too short, or the image of the stream.
 -- What is answered, and what is left in the output.
-use Rattle.std.specs.Prelude.{ℕ, ◌*◌, Bool, true, false, List, ◌++◌, length, drop, ltb}
+use Rattle.std.specs.Prelude.{ℕ, ◌*◌, Bool, true, false, List, ◌++◌, length, drop, ltb, Result, Ok, Err}
 use Rattle.std.proofs.Math.Option.{Option, none, some}
 use Rattle.types.specs.Limits.{program_blocks}
 use Rattle.types.specs.Numbers.{no_room, no_program}
@@ -27,6 +27,11 @@ ended (some s) out = with_room (ltb (length out) (block_size * program_blocks)) 
 abbrev pub answer : Ending → Answer
 answer (wrote s) = record { number = 0; blocks = pieces (length s) }
 answer (stopped n) = record { number = n; blocks = 0 }
+
+-- the same of a result: the blocks that are written, or the number of the refusal
+abbrev pub answer_of : Result ℕ ℕ → Answer
+answer_of (Ok k) = record { number = 0; blocks = k }
+answer_of (Err n) = record { number = n; blocks = 0 }
 
 unfoldable pub left : Ending → List ℕ → List ℕ
 left (wrote s) out = image s ++ drop (length (image s)) out

@@ -1,5 +1,5 @@
 -- Each way to the end of reading: what is answered and what is left in the output are those of the text's outcome (02 §1).
-use Rattle.std.specs.Prelude.{ℕ, ◌*◌, ◌<◌, ◌≤◌, ◌≡◌, Bool, false, not, List, length, ltb}
+use Rattle.std.specs.Prelude.{ℕ, ◌*◌, ◌<◌, ◌≤◌, ◌≡◌, Bool, false, not, List, length, ltb, Result, Ok}
 use Rattle.std.proofs.Common.{arith, ◌∙◌}
 use Rattle.std.proofs.Math.Path.{refl, sym}
 use Rattle.std.proofs.Math.Bool.{true}
@@ -12,8 +12,6 @@ use Rattle.block.specs.Block.{block_size}
 use Rattle.blocks.specs.Images.{image, pieces, stream_right, write, written_into}
 use Rattle.blocks.proofs.ImageLaws.{image_length}
 use Rattle.blocks.proofs.WriteWays.{write_done}
-use Rattle.blocks.specs.declared.Written.{Written}
-use Rattle.blocks.specs.declared.Written.TheVariants.{Blocks}
 use Rattle.program.specs.Tree.{Program}
 use Rattle.program.specs.Encoding.{enc_program}
 use Rattle.meaning.specs.Meant.{then, provided}
@@ -22,6 +20,7 @@ use Rattle.source.specs.Source.{Outcome, number_of, blocks_of, output_of}
 use Rattle.source.specs.TextReader.{of_program}
 use Rattle.read_text.specs.Ending.{Ending.wrote, Ending.stopped, with_room, ended, answer, left, ending}
 use Rattle.meaning.specs.Holds.{max_stream, block_bytes}
+use Rattle.blocks.specs.declared.WriteError.{WriteError}
 
 -- Of an outcome ----------------------------------------------------------------------------------
 
@@ -66,17 +65,17 @@ module _ (s out : List ℕ) where
     unfolding ended with_room
     room_ends = rw (le-ltb (length out) (block_size * program_blocks) room, with_room) refl
 
-    pub blocks_are : write program_blocks (length s) (length out) ≡ Blocks (pieces (length s))
+    pub blocks_are : write program_blocks (length s) (length out) ≡ Ok (pieces (length s))
     unfolding stream_right
     blocks_are =
         sym (write_done program_blocks (length s) (length out) true
         (rw (le-leb 1 (length s) one, le-leb (length s) (block_bytes * program_blocks) (omega arith))) refl (omega arith))
 
-    pub few_written : (w : Written) (k : ℕ) → w ≡ write program_blocks (length s) (length out) → w ≡ Blocks k → k ≤ program_blocks
+    pub few_written : (w : Result ℕ WriteError) (k : ℕ) → w ≡ write program_blocks (length s) (length out) → w ≡ Ok k → k ≤ program_blocks
     few_written w k e f = let b : k ≡ pieces (length s) = cc blocks_are in omega arith
 
     -- what writing the image answers and leaves
-    pub image_ends : (w : Written) (k : ℕ) (o : List ℕ) → w ≡ write program_blocks (length s) (length out) → w ≡ Blocks k → o ≡ written_into w s out
+    pub image_ends : (w : Result ℕ WriteError) (k : ℕ) (o : List ℕ) → w ≡ write program_blocks (length s) (length out) → w ≡ Ok k → o ≡ written_into w s out
         → (record { number = 0; blocks = k } ≡ answer (ended (some s) out)) × (o ≡ left (ended (some s) out) out)
     unfolding left written_into image
     image_ends w k o e f g =

@@ -1,5 +1,10 @@
 -- Each way behind a derivation (02 §1): names or declarations with 17, counts or bytes with 17, or a stream, as it stands in lent memory.
-use Rattle.std.specs.Prelude.{ℕ, ◌+◌, ◌-◌, ◌<◌, ◌≤◌, ◌≡◌, List, length, get_or, take, drop}
+use Rattle.std.specs.Prelude.{ℕ, ◌+◌, ◌-◌, ◌<◌, ◌≤◌, ◌≡◌, List, length, get_or, take, drop, Option, Some, None, Result, Ok, Err}
+use Rattle.std.specs.Option.{ok_or}
+use Rattle.std.specs.Result.{IsErrAnd}
+use Rattle.types.specs.Refusals.{numbered}
+use Rattle.types.specs.declared.refusal.Refusal.TheVariants.{NoProgram}
+use Rattle.types.specs.declared.refusal.Refusal.{Refusal}
 use Rattle.std.proofs.Common.{arith, ◌∙◌, length-drop, length-take, get_or-take, get_or-drop, take_all}
 use Rattle.std.proofs.Math.Path.{refl, sym, ap}
 use Rattle.std.proofs.Math.Option.{none, some}
@@ -14,12 +19,9 @@ use Rattle.compose.specs.Composed.{composed, composed_by, type_bytes}
 use Rattle.compose.proofs.Laws.StreamLaws.{resolved_rows}
 use Rattle.uses.specs.Declaring.{Tabled}
 use Rattle.uses.specs.Lent.{numbered_in, Counted}
-use Rattle.uses.specs.declared.Numbered.{Numbered}
-use Rattle.uses.specs.declared.Numbered.TheVariants.{Count, Nothing}
+use Rattle.uses.specs.declared.NoProgram.{NoProgram as Unnumbered}
 use Rattle.composing.specs.Placing.{placed_in}
-use Rattle.composing.specs.declared.Placed.{Placed}
-use Rattle.composing.specs.declared.Placed.TheVariants.{At, Over}
-use Rattle.read_text.specs.Ending.{Ending.stopped, ended, answer, left}
+use Rattle.read_text.specs.Ending.{Ending.stopped, ended, answer, answer_of, left}
 use Rattle.read_text.specs.declared.Answer.{Answer}
 use Rattle.read_text.specs.Roled.{Roled, stream_of}
 use Rattle.read_text.specs.StreamLaws.{held_front, composed_long}
@@ -65,6 +67,26 @@ module _ (x cs t : List ℕ) (r : Roled x cs) (ok : Rows (offsets new_par_role c
   unfolding composed
   composed_lent ns = rw (offsets_lent, types_lent) refl
 
+-- A refusal in place of nothing --------------------------------------------------------------------
+
+module _ (r : Result ℕ Refusal) (e : Refusal) where
+  pub ok_or_some : {p : ℕ} (o : Option ℕ) → r ≡ ok_or o e → r ≡ Ok p → o ≡ Some p
+  ok_or_some (Some q) f g = cc
+  ok_or_some None f g = absurd (let z : ◌≡◌ {A = ℕ} 0 1 = cc in omega arith)
+
+  pub ok_or_none : {f : Refusal} (o : Option ℕ) → r ≡ ok_or o e → r ≡ Err f → (o ≡ None) × (f ≡ e)
+  ok_or_none None f g = (refl, cc)
+  ok_or_none (Some q) f g = absurd (let z : ◌≡◌ {A = ℕ} 0 1 = cc in omega arith)
+
+-- by the refusal of a text that is no program
+pub none_refused : (r : Result ℕ Refusal) → IsErrAnd r (λ e. e ≡ NoProgram) → answer_of (numbered r) ≡ answer (stopped no_program)
+none_refused (Err e) h = ap (λ e. answer_of (numbered {A = ℕ} (Err e))) h
+none_refused (Ok k) h = absurd h
+
+pub same_refused : (r : Result ℕ Refusal) {f : Refusal} → f ≡ NoProgram → IsErrAnd r (λ e. e ≡ f) → answer_of (numbered r) ≡ answer (stopped no_program)
+same_refused (Err e) g h = ap (λ e. answer_of (numbered {A = ℕ} (Err e))) (h ∙ g)
+same_refused (Ok k) g h = absurd h
+
 -- The ways -------------------------------------------------------------------------------------------
 
 -- 17 where there is no stream
@@ -73,16 +95,16 @@ none_ends : (x cs out : List ℕ) → stream_of x cs ≡ none → (a : Answer) �
 unfolding ended left
 none_ends x cs out e a f = rw (e, f) (refl, refl)
 
-module _ (x cs out l : List ℕ) (r : Numbered) (e : numbered_in l r ≡ resolved x cs) where
-  unnamed : (p : ℕ) → r ≡ Nothing p → stream_of x cs ≡ none
+module _ (x cs out l : List ℕ) (r : Result ℕ Unnumbered) (e : numbered_in l r ≡ resolved x cs) where
+  unnamed : (p : Unnumbered) → r ≡ Err p → stream_of x cs ≡ none
   unfolding numbered_in then
   unnamed p f = rw (← e, f) refl
 
-  pub unnamed_ends : (p : ℕ) → r ≡ Nothing p → (a : Answer) → a ≡ answer (stopped no_program)
+  pub unnamed_ends : (p : Unnumbered) → r ≡ Err p → (a : Answer) → a ≡ answer (stopped no_program)
       → (a ≡ answer (ended (stream_of x cs) out)) × (out ≡ left (ended (stream_of x cs) out) out)
   unnamed_ends p f = none_ends x cs out (unnamed p f)
 
-  module _ (n : ℕ) (f : r ≡ Count n) where
+  module _ (n : ℕ) (f : r ≡ Ok n) where
     named : resolved x cs ≡ some (held l n)
     unfolding numbered_in
     named = sym e ∙ rw f refl
@@ -94,20 +116,20 @@ module _ (x cs out l : List ℕ) (r : Numbered) (e : numbered_in l r ≡ resolve
     unfolding Counted
     count_told h = rw f at h
 
-    module _ (b : n ≤ length l) (o : List ℕ) (q : Placed) (g : placed_in o q ≡ composed x cs (held (take n l) (length (take n l)))) where
+    module _ (b : n ≤ length l) (o : List ℕ) (q : Option ℕ) (g : placed_in o q ≡ composed x cs (held (take n l) (length (take n l)))) where
       streamed : stream_of x cs ≡ placed_in o q
       unfolding then
       streamed = rw named (sym (g ∙ ap (composed x cs) (held_front l n b)))
 
-      over : q ≡ Over → stream_of x cs ≡ none
+      over : q ≡ None → stream_of x cs ≡ none
       unfolding placed_in
       over h = streamed ∙ rw h refl
 
-      pub over_ends : q ≡ Over → (a : Answer) → a ≡ answer (stopped no_program)
+      pub over_ends : q ≡ None → (a : Answer) → a ≡ answer (stopped no_program)
           → (a ≡ answer (ended (stream_of x cs) out)) × (out ≡ left (ended (stream_of x cs) out) out)
       over_ends h = none_ends x cs out (over h)
 
-      module _ (p : ℕ) (h : q ≡ At p) where
+      module _ (p : ℕ) (h : q ≡ Some p) where
         at_place : stream_of x cs ≡ some (drop p o)
         unfolding placed_in
         at_place = streamed ∙ rw h refl

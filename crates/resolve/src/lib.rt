@@ -5,10 +5,3 @@ pub mod declarations;
 pub mod literals;
 pub mod names;
 pub mod tables;
-
-// The four bytes of a literal as one number, or that it is outside its type.
-#[derive(Clone, Copy)]
-pub enum Word {
-    Of(u32),
-    Outside,
-}

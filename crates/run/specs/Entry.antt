@@ -1,14 +1,12 @@
 -- The run's entry on images (01, 'Numbers from the input', 'Numbers from the state', 'What contracts here say'): from a
 -- program image, a table image, turn bytes and the lengths lent to number, depth, list places, turns, blocks and bytes.
-use Rattle.std.specs.Prelude.{ℕ, ◌*◌, List, ◌++◌, length, drop, ltb}
+use Rattle.std.specs.Prelude.{ℕ, ◌*◌, List, ◌++◌, length, drop, ltb, Option, Some, None}
 use Rattle.types.specs.Limits.{table_blocks, max_commands, max_turns}
 use Rattle.types.specs.Numbers.{no_room, many_turns}
 use Rattle.types.specs.Stages.{Stage, Stage.went, Stage.stopped, on, asked}
 use Rattle.types.specs.Types.{Ty}
 use Rattle.block.specs.Block.{block_size}
 use Rattle.blocks.specs.Images.{fault, stream, image, pieces, table_number as table_block_number}
-use Rattle.block.specs.declared.Found.{Found}
-use Rattle.block.specs.declared.Found.TheVariants.{Right, Wrong}
 use Rattle.program.specs.Tree.{Program}
 use Rattle.commands.specs.Bounds.{program_depth}
 use Rattle.verdict.specs.Verdict.{checked, listed}
@@ -18,6 +16,7 @@ use Rattle.machine.specs.Machine.{Machine}
 use Rattle.run.specs.Run.{Outcome, Outcome.stopped as ended, Outcome.jammed, run}
 use Rattle.run.specs.Begin.{begin, table_of}
 use Rattle.run.specs.Holders.{holders}
+use Rattle.block.specs.declared.Fault.{Fault}
 
 abbrev pub no_number : ℕ
 no_number = 255
@@ -25,9 +24,9 @@ no_number = 255
 -- A run ----------------------------------------------------------------------------
 
 -- 9 to 12 of a table image, under the types of its program's parameters: its blocks before its stream
-unfoldable pub of_table_image : List (List Ty) → Found → List ℕ → TableAnswer
-of_table_image pss (Wrong f) y = stopped (table_block_number f)
-of_table_image pss Right y = table_of_stream pss (stream y)
+unfoldable pub of_table_image : List (List Ty) → Option Fault → List ℕ → TableAnswer
+of_table_image pss (Some f) y = stopped (table_block_number f)
+of_table_image pss None y = table_of_stream pss (stream y)
 
 abbrev pub tabled : List (List Ty) → List ℕ → TableAnswer
 tabled pss y = of_table_image pss (fault table_blocks y) y

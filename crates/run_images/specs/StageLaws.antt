@@ -1,6 +1,5 @@
 -- What each refusal of a run answers and leaves (01, 'Numbers from the input'), and what a run answers after all of them.
-use Rattle.std.specs.Prelude.{ℕ, ◌*◌, ◌<◌, ◌≤◌, ◌≡◌, Bool, List, length}
-use Rattle.std.proofs.Common.{arith, ◌∙◌}
+use Rattle.std.specs.Prelude.{ℕ, ◌*◌, ◌<◌, ◌≤◌, ◌≡◌, Bool, List, length, Result, Ok, Err}
 use Rattle.std.proofs.Math.Path.{refl}
 use Rattle.std.proofs.Math.Bool.{true, false}
 use Rattle.std.proofs.Math.Dec.{ltb}
@@ -17,27 +16,27 @@ use Rattle.run.specs.Entry.{Begun, begun, not_begun, with_room, images, begins, 
 use Rattle.run.specs.Entry.{run_report, run_output, run_list}
 use Rattle.run_images.specs.declared.Report.{Report}
 use Rattle.run_images.specs.Answer.{answer}
-use Rattle.run_images.specs.Stages.{room_number, Answers, Came}
+use Rattle.run_images.specs.Stages.{room_told, Answers, Came}
 
 -- the three tests in order
 module _ (o l n : ℕ) where
-  pub short_output : o < block_size * table_blocks → room_number o l n ≡ no_room
-  unfolding room_number
-  short_output h = rw (room_number, lt-ltb o (block_size * table_blocks) h)
+  pub short_output : o < block_size * table_blocks → room_told o l n ≡ Err no_room
+  unfolding room_told
+  short_output h = rw (room_told, lt-ltb o (block_size * table_blocks) h)
 
   module _ (long : block_size * table_blocks ≤ o) where
-    pub short_list : l < max_commands → room_number o l n ≡ no_room
-    unfolding room_number
-    short_list h = rw (room_number, le-ltb o (block_size * table_blocks) long, lt-ltb l max_commands h)
+    pub short_list : l < max_commands → room_told o l n ≡ Err no_room
+    unfolding room_told
+    short_list h = rw (room_told, le-ltb o (block_size * table_blocks) long, lt-ltb l max_commands h)
 
     module _ (places : max_commands ≤ l) where
-      pub many_bytes : max_turns < n → room_number o l n ≡ many_turns
-      unfolding room_number
-      many_bytes h = rw (room_number, le-ltb o (block_size * table_blocks) long, le-ltb l max_commands places, lt-ltb max_turns n h)
+      pub many_bytes : max_turns < n → room_told o l n ≡ Err many_turns
+      unfolding room_told
+      many_bytes h = rw (room_told, le-ltb o (block_size * table_blocks) long, le-ltb l max_commands places, lt-ltb max_turns n h)
 
-      pub room_enough : n ≤ max_turns → room_number o l n ≡ 0
-      unfolding room_number
-      room_enough h = rw (room_number, le-ltb o (block_size * table_blocks) long, le-ltb l max_commands places, le-ltb max_turns n h)
+      pub room_enough : n ≤ max_turns → room_told o l n ≡ Ok tt
+      unfolding room_told
+      room_enough h = rw (room_told, le-ltb o (block_size * table_blocks) long, le-ltb l max_commands places, le-ltb max_turns n h)
 
 -- there is room for everything
 pub record Room (es out list : List ℕ) : Type 0 where
@@ -57,21 +56,22 @@ module _ {es out list : List ℕ} where
   refused_answers e h = refused_by (rw e refl) h
 
   -- by what the tests come to
-  module _ {n : ℕ} (number : n ≡ room_number (length out) (length list) (length es)) where
-    pub room_open : n ≡ 0 → Room es out list
+  module _ {t : Result (Unit {0}) ℕ} (told : t ≡ room_told (length out) (length list) (length es)) where
+    pub room_open : t ≡ Ok tt → Room es out list
     room_open z = go (ltb (length out) (block_size * table_blocks)) refl (ltb (length list) max_commands) refl (ltb max_turns (length es)) refl
       where
         go : (t : Bool) → ltb (length out) (block_size * table_blocks) ≡ t → (u : Bool) → ltb (length list) max_commands ≡ u → (v : Bool)
             → ltb max_turns (length es) ≡ v → Room es out list
         go true t u i v j =
-            let e = number ∙ short_output _ _ _ (ltb-true (length out) (block_size * table_blocks) t) in absurd (omega arith)
+            let e = short_output (length out) (length list) (length es) (ltb-true (length out) (block_size * table_blocks) t) in absurd (cc)
         go false t true i v j =
-            let e = number ∙ short_list _ _ _ (ltb-false (length out) (block_size * table_blocks) t) (ltb-true (length list) max_commands i) in
-            absurd (omega arith)
+            let e = short_list (length out) (length list) (length es) (ltb-false (length out) (block_size * table_blocks) t)
+            (ltb-true (length list) max_commands i) in
+            absurd (cc)
         go false t false i true j =
-            let e = number ∙ many_bytes _ _ _ (ltb-false (length out) (block_size * table_blocks) t) (ltb-false (length list) max_commands i)
-            (ltb-true max_turns (length es) j) in
-            absurd (omega arith)
+            let e = many_bytes (length out) (length list) (length es) (ltb-false (length out) (block_size * table_blocks) t)
+            (ltb-false (length list) max_commands i) (ltb-true max_turns (length es) j) in
+            absurd (cc)
         go false t false i false j = record {
           long = ltb-false (length out) (block_size * table_blocks) t;
           places = ltb-false (length list) max_commands i;
@@ -79,27 +79,32 @@ module _ {es out list : List ℕ} where
         }
 
     -- program and table begin a run
-    pub room_answers : {b : Begun} {p : Program} {rs : List Record} {r : Report} → b ≡ begun p rs → (n ≡ 0 → ⊥) → r ≡ answer (report n 0 0 0 0)
+    pub room_answers : {b : Begun} {p : Program} {rs : List Record} {r : Report} {n : ℕ} → b ≡ begun p rs → t ≡ Err n → r ≡ answer (report n 0 0 0 0)
         → Answers b es out list r out list
     unfolding on with_room asked
-    room_answers {b} {p} {rs} {r} begins z h =
+    room_answers {b} {p} {rs} {r} {n} begins z h =
         go (ltb (length out) (block_size * table_blocks)) refl (ltb (length list) max_commands) refl (ltb max_turns (length es)) refl
       where
         go : (t : Bool) → ltb (length out) (block_size * table_blocks) ≡ t → (u : Bool) → ltb (length list) max_commands ≡ u → (v : Bool)
             → ltb max_turns (length es) ≡ v → Answers b es out list r out list
         go true t u i v j =
-            let e = number ∙ short_output _ _ _ (ltb-true (length out) (block_size * table_blocks) t) in
-            refused_by (rw (begins, t)) (rw e at h)
+            let e = short_output (length out) (length list) (length es) (ltb-true (length out) (block_size * table_blocks) t) in
+            let k : n ≡ no_room = cc in
+            refused_by (rw (begins, t)) (rw k at h)
         go false t true i v j =
-            let e = number ∙ short_list _ _ _ (ltb-false (length out) (block_size * table_blocks) t) (ltb-true (length list) max_commands i) in
-            refused_by (rw (begins, t, i)) (rw e at h)
+            let e = short_list (length out) (length list) (length es) (ltb-false (length out) (block_size * table_blocks) t)
+            (ltb-true (length list) max_commands i) in
+            let k : n ≡ no_room = cc in
+            refused_by (rw (begins, t, i)) (rw k at h)
         go false t false i true j =
-            let e = number ∙ many_bytes _ _ _ (ltb-false (length out) (block_size * table_blocks) t) (ltb-false (length list) max_commands i)
-            (ltb-true max_turns (length es) j) in
-            refused_by (rw (begins, t, i, j)) (rw e at h)
+            let e = many_bytes (length out) (length list) (length es) (ltb-false (length out) (block_size * table_blocks) t)
+            (ltb-false (length list) max_commands i) (ltb-true max_turns (length es) j) in
+            let k : n ≡ many_turns = cc in
+            refused_by (rw (begins, t, i, j)) (rw k at h)
         go false t false i false j =
-            absurd (z (number ∙ room_enough _ _ _ (ltb-false (length out) (block_size * table_blocks) t) (ltb-false (length list) max_commands i)
-            (ltb-false max_turns (length es) j)))
+            let e = room_enough (length out) (length list) (length es) (ltb-false (length out) (block_size * table_blocks) t)
+            (ltb-false (length list) max_commands i) (ltb-false max_turns (length es) j) in
+            absurd (cc)
 
   -- a run of the machine that the table begins with is answered
   module _ {b : Begun} {p : Program} {rs : List Record} (begins : b ≡ begun p rs) (room : Room es out list) where

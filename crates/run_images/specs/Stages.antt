@@ -1,6 +1,6 @@
 -- What a run on images comes to (01, 'Numbers from the input', 'Numbers from the state'): what is played of a machine that is seated, and what is
 -- answered. 13 and 14 stand after all others, so that a stage speaks of what program and table come to without them.
-use Rattle.std.specs.Prelude.{ℕ, ◌*◌, ◌≡◌, true, false, List, ltb}
+use Rattle.std.specs.Prelude.{ℕ, ◌*◌, ◌≡◌, true, false, List, ltb, Result, Ok, Err}
 use Rattle.types.specs.Limits.{table_blocks, max_commands, max_turns}
 use Rattle.types.specs.Numbers.{no_room, many_turns}
 use Rattle.block.specs.Block.{block_size}
@@ -19,11 +19,11 @@ use Rattle.run_images.specs.Answer.{answer}
 
 -- What a caller lends ---------------------------------------------------------------------
 
--- 13 for a short output or a short list, 14 for too many turn bytes; 0 where there is room for everything
-unfoldable pub room_number : ℕ → ℕ → ℕ → ℕ
-room_number output list turns = elim (ltb output (block_size * table_blocks)) [
-  | true ↦ no_room
-  | false ↦ elim (ltb list max_commands) [ true ↦ no_room | false ↦ elim (ltb max_turns turns) [ true ↦ many_turns | false ↦ 0 ] ]
+-- 13 for a short output or a short list, 14 for too many turn bytes
+unfoldable pub room_told : ℕ → ℕ → ℕ → Result (Unit {0}) ℕ
+room_told output list turns = elim (ltb output (block_size * table_blocks)) [
+  | true ↦ Err no_room
+  | false ↦ elim (ltb list max_commands) [ true ↦ Err no_room | false ↦ elim (ltb max_turns turns) [ true ↦ Err many_turns | false ↦ Ok tt ] ]
 ]
 
 -- Its run --------------------------------------------------------------------------------

@@ -4,20 +4,21 @@
 
 ghost use Rattle.std.specs.Prelude.{◌≡◌, ◌*◌, ◌≤◌, length};
 ghost use Rattle.types.specs.Limits.{table_blocks, max_turns, max_instances};
+ghost use Rattle.types.specs.Refusals.{numbered};
 ghost use Rattle.block.specs.Block.{block_size, payload_size};
 ghost use Rattle.run.specs.Entry.{report, run_report, run_output, run_list};
 ghost use Rattle.table_write.specs.Written.{Filled, memory_blocks, memory_image};
 ghost use Rattle.seating.specs.Seated.{Opening};
-ghost use Rattle.run_images.specs.Answer.{answer};
-ghost use Rattle.run_images.specs.Stages.{room_number, Begins};
+ghost use Rattle.run_images.specs.Answer.{answer, settled};
+ghost use Rattle.run_images.specs.Stages.{room_told, Begins};
 
 use compile::items::CODES;
 use compile::spans::SPANS;
 use directory::rows::ROWS;
 use engine::Machine;
-use interpreter::turns::Ran;
-use load::Load;
-use seating::{Opened, SeatRead};
+use interpreter::turns::{Program, Ran};
+use seating::Opened;
+use types::refusal::Refusal;
 
 // Output bytes that a run asks for.
 const OUTPUT: usize = types::TABLE_BLOCKS * blocks::BLOCK_SIZE;
@@ -46,20 +47,27 @@ fn refused(number: u8) -> Report
     }
 }
 
-// 13 where the output or the list is too short, 14 where there are too many turn bytes; 0 where there is room for everything.
-fn room(output: usize, list: usize, turns: usize) -> u8
-    ensures { result ≡ room_number output list turns }
+// What a run answers that was played or was refused.
+fn settled(r: Result<Report, Refusal>) -> Report
+    ensures { result ≡ settled r }
 {
-    if output < OUTPUT {
-        return types::number::NO_ROOM;
+    match r {
+        Ok(report) => report,
+        Err(refusal) => refused(u8::from(refusal)),
     }
-    if list < types::MAX_COMMANDS {
-        return types::number::NO_ROOM;
+}
+
+// 13 where the output or the list is too short, 14 where there are too many turn bytes.
+fn room(output: usize, list: usize, turns: usize) -> Result<(), Refusal>
+    ensures { numbered result ≡ room_told output list turns }
+{
+    if output < OUTPUT || list < types::MAX_COMMANDS {
+        return Err(Refusal::NoRoom);
     }
     if types::MAX_TURNS < turns {
-        return types::number::MANY_TURNS;
+        return Err(Refusal::ManyTurns);
     }
-    0
+    Ok(())
 }
 
 // What a run answers; the table as it stands then is written into the output, its stream into the buffer before.
@@ -96,48 +104,52 @@ fn reported(
 // After an accepted program: 9 to 14 in order, or a run. Where its steps will stand and its schedule are known before a machine is seated; the commands
 // are written into the list after all refusals, and the turns are taken.
 fn begun(
-    o: Opened,
+    o: &Opened,
     s: &[u8],
     rows: &[u16],
     table: &[u8],
     turns: &[u8],
     output: &mut [u8],
     list: &mut [u64],
-) -> Report
-    requires { Opening o s.now rows.now }
-    ensures { Begins o s.now rows.now table.now turns.now output.old list.old result
+) -> Result<Report, Refusal>
+    requires { Opening o.now s.now rows.now }
+    ensures { Begins o.now s.now rows.now table.now turns.now output.old list.old (settled result)
         output.new list.new }
 {
-    let p = o.loaded;
-    let counts = o.counts;
-    let types = o.types;
-    let k = p.structs as usize;
-    let end = types::MAX_PARAMS * k;
-    let cs = &counts[..k];
-    let ts = &types[..end];
+    let l = o.loaded;
+    let p = seating::parameters(o);
+    let counts = p.counts;
     let mut spans = [0u16; SPANS];
     let mut items = [0usize; CODES];
-    compile::program(s, p.plan, k, rows, p.steps as usize, &mut spans, &mut items);
+    let structs = l.structs as usize;
+    compile::program(
+        s,
+        l.plan,
+        structs,
+        rows,
+        l.steps as usize,
+        &mut spans,
+        &mut items,
+    );
     let mut buffer = [0u8; types::TABLE_BLOCKS * blocks::PAYLOAD_SIZE];
     let mut heads = [0u16; layout::HEADS];
     let mut cells = [0u64; layout::CELLS];
     // 9 to 12
-    let seated = seating::seat_table(p.at, cs, ts, table, &mut buffer, &mut heads, &mut cells);
-    let SeatRead::Taken(seat) = seated else {
-        return refused(seating::refusal(seated));
-    };
+    let seat = seating::seat_table(l.at, p, table, &mut buffer, &mut heads, &mut cells)?;
     // 13 and 14
-    let number = room(output.len(), list.len(), turns.len());
-    if number != 0 {
-        return refused(number);
-    }
-    emit_steps::program(s, cs, seat.at, list);
+    room(output.len(), list.len(), turns.len())?;
+    emit_steps::program(s, counts, seat.at, list);
     let numbers = seat.numbers;
     let first = Machine { numbers };
-    let ran = interpreter::turns::run(
-        first, list, cs, &items, &spans, &mut heads, &mut cells, turns,
-    );
-    reported(cs, &heads, &cells, ran, p.depth, &mut buffer, output)
+    let code = Program {
+        list,
+        counts,
+        items: &items,
+        spans: &spans,
+    };
+    let ran = interpreter::turns::run(first, &code, &mut heads, &mut cells, turns);
+    let report = reported(counts, &heads, &cells, ran, l.depth, &mut buffer, output);
+    Ok(report)
 }
 
 // A program image, a table image and turn bytes: 1 to 14 in order, or a run, which writes the commands into the list and the last table
@@ -155,19 +167,12 @@ pub fn run(
     ensures list_after { list.new ≡ run_list program.now table.now turns.now output.old list.old }
 {
     let mut stream = [0u8; seating::SHORT];
-    let mut counts = [0u8; types::MAX_STRUCTS];
-    let mut types = [0u8; types::MAX_STRUCTS * types::MAX_PARAMS];
     let mut rows = [0u16; ROWS];
     // 1 to 8
-    let r = seating::admit(program, &mut stream, &mut counts, &mut types, &mut rows);
-    let Load::Program(loaded) = r else {
-        return refused(load::refusal(r));
+    let o = match seating::open_program(program, &mut stream, &mut rows) {
+        Ok(o) => o,
+        Err(refusal) => return refused(u8::from(refusal)),
     };
-    let n = loaded.length;
-    let o = Opened {
-        loaded,
-        counts,
-        types,
-    };
-    begun(o, &stream[..n], &rows, table, turns, output, list)
+    let n = o.loaded.length;
+    settled(begun(&o, &stream[..n], &rows, table, turns, output, list))
 }

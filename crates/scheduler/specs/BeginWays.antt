@@ -1,7 +1,7 @@
 -- The ways through the code by which a step begins (000's rules InitG and InitL).
-use Prim.Native.Nat.{ℕ, suc, ◌+◌, ◌-◌, ◌/◌, ◌%◌, ◌<◌, ◌≤◌}
+use Prim.Native.Nat.{ℕ, suc, ◌+◌, ◌-◌, ◌%◌, ◌<◌, ◌≤◌}
 use Rattle.std.specs.Prelude.{◌≡◌, refl, Bool, true, false, List, get_or, eqb}
-use Rattle.std.proofs.Common.{sym, ◌∙◌, eq-eqb, ne_eqb, eqb-true, le-leb}
+use Rattle.std.proofs.Common.{sym, ◌∙◌, eqb-true, le-leb, eq-eqb, ne_eqb}
 use native.Mathlib.Omega.{arith}
 use Rattle.std.proofs.Math.Numerals.{add-one}
 use Rattle.std.proofs.lemmas.Bool.{eqb-false, lt-leb}
@@ -11,6 +11,7 @@ use Rattle.memory.specs.Plan.{span_of, from, to}
 use Rattle.memory.specs.Move.{means, begin_one, begin_all}
 use Rattle.memory.proofs.Laws.BeginLaws.{begins, begun_struct, one_begins, one_stays, one_length, one_others}
 use Rattle.scheduler.specs.Ready.{Row, Rows}
+use Prim.Native.Nat.{◌/◌}
 
 -- One instance -------------------------------------------------------------------
 

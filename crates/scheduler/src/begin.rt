@@ -11,10 +11,7 @@ fn means(c: usize, k: usize) -> bool
     ensures { result ≡ means c k }
 {
     let named = c / types::STEP_NAMES;
-    if named == 0 {
-        return true;
-    }
-    named == k + 1
+    named == 0 || named == k + 1
 }
 
 // Instance l begins the step of the code c, where its struct has it.
@@ -41,9 +38,7 @@ pub fn begin_all(spans: &[u16], heads: &mut [u16], c: usize, n: usize)
     requires rows { Rows heads.old n }
     ensures { heads.new ≡ begin_all spans.now c heads.old 0 n }
 {
-    let mut l = 0;
-    while l < n {
+    for l in 0..n {
         begin_one(spans, heads, c, l);
-        l += 1;
     }
 }

@@ -11,12 +11,10 @@ pub fn holding(heads: &[u16], n: usize) -> usize
     ensures { result ≡ holding heads.now 0 n }
 {
     let mut count: usize = 0;
-    let mut l = 0;
-    while l < n {
+    for l in 0..n {
         if holds(heads, l) {
             count += 1;
         }
-        l += 1;
     }
     count
 }

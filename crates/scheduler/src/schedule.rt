@@ -14,11 +14,12 @@ fn fix(numbers: Numbers) -> Numbers
     requires { (numbers.place < 2 ^ 63) × (numbers.stable < 2 ^ numbers.fixes) × (numbers.fixes < fix_levels) }
     ensures { Makes do_fix numbers result }
 {
-    let mut next = numbers;
-    next.place = numbers.place + 1;
-    next.fixes = numbers.fixes + 1;
-    next.stable = 2 * numbers.stable + 1;
-    next
+    Numbers {
+        place: numbers.place + 1,
+        fixes: numbers.fixes + 1,
+        stable: 2 * numbers.stable + 1,
+        ..numbers
+    }
 }
 
 // A Fix ends where its entry, the lowest bit, is true; else it goes round to its items at t.
@@ -26,16 +27,20 @@ fn round(t: usize, numbers: Numbers) -> Numbers
     requires { (numbers.place < 2 ^ 63) × (numbers.stable < 2 ^ numbers.fixes) }
     ensures { Makes (do_round t) numbers result }
 {
-    let mut next = numbers;
     if numbers.stable % 2 == 1 {
-        next.place = numbers.place + 1;
-        next.fixes = numbers.fixes - 1;
-        next.stable = numbers.stable / 2;
-        return next;
+        Numbers {
+            place: numbers.place + 1,
+            fixes: numbers.fixes - 1,
+            stable: numbers.stable / 2,
+            ..numbers
+        }
+    } else {
+        Numbers {
+            place: t,
+            stable: numbers.stable + 1,
+            ..numbers
+        }
     }
-    next.place = t;
-    next.stable = numbers.stable + 1;
-    next
 }
 
 // The item at the place of a machine with these numbers.
@@ -47,10 +52,11 @@ pub fn advance(numbers: Numbers, items: &[usize], spans: &[u16], heads: &mut [u1
     let c = items[place];
     if c < codes::FIX {
         begin_all(spans, heads, c, numbers.count);
-        let mut next = numbers;
-        next.place = place + 1;
-        next.holding = holding(heads, numbers.count);
-        return next;
+        return Numbers {
+            place: place + 1,
+            holding: holding(heads, numbers.count),
+            ..numbers
+        };
     }
     if c == codes::FIX {
         return fix(numbers);

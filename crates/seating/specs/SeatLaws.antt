@@ -1,5 +1,5 @@
 -- A table image under an accepted program (01, 'Table and turns', and numbers 9 to 12): it is refused, or its instances are seated.
-use Rattle.std.specs.Prelude.{ℕ, ◌+◌, ◌*◌, ◌≡◌, refl, List, [], length}
+use Rattle.std.specs.Prelude.{ℕ, ◌+◌, ◌*◌, ◌≡◌, refl, List, [], length, Ok, Err}
 use Rattle.std.proofs.Common.{arith, ap, sym, ◌∙◌}
 use Rattle.types.specs.Limits.{max_instances}
 use Rattle.types.specs.Stages.{Stage.went as table, Stage.stopped as no_table, Stage.went as accepted, Stage.stopped as refused, on}
@@ -23,11 +23,12 @@ use Rattle.layout.specs.State.{fresh}
 use Rattle.memory.specs.Plan.{At}
 use Rattle.memory.proofs.Laws.ChooseStands.{holding_same}
 use Rattle.load.specs.Load.{Admitted}
-use Rattle.table_read.specs.declared.TableRead.TheVariants.{Instances, Refused}
 use Rattle.table_read.specs.Params.{lists_of, Tables}
 use Rattle.table_read.specs.TableTold.{table_told, TableLaid}
 use Rattle.table_read.specs.Laws.ReadStands.{program_tables, image_answer_is, image_right, image_stands}
-use Rattle.seating.specs.Seated.{Admits, seat_of, Seated}
+use Rattle.seating.specs.declared.Opened.{Opened}
+use Rattle.seating.specs.Seated.{Opens, Admits, seat_of, Seated, Tabled}
+use Rattle.seating.specs.AdmitLaws.{opens_admits}
 
 pub admitted_counts : {s counts : List ℕ} {at : ℕ} {p : Program} → Admitted s counts at p → Counts p
 admitted_counts {s = s} {p = p} a = ((program_law s p a.end).0 a.reads).0
@@ -45,10 +46,10 @@ module _ {s counts types : List ℕ} {at : ℕ} {p : Program} (a : Admits s coun
     came : table_told (length counts) told ≡ table_told (structs p) (tabled p.params y)
     came = rw (a.admitted.counted, a.typed) (image_answer_is p (admitted_counts a.admitted) y)
 
-    pub image_refused : (n : ℕ) → table_told (length counts) told ≡ Refused n → tabled p.params y ≡ no_table n
+    pub image_refused : (n : ℕ) → table_told (length counts) told ≡ Err n → tabled p.params y ≡ no_table n
     image_refused n e = go (tabled p.params y) (sym came ∙ e)
       where
-        go : (q : TableAnswer) → table_told (structs p) q ≡ Refused n → q ≡ no_table n
+        go : (q : TableAnswer) → table_told (structs p) q ≡ Err n → q ≡ no_table n
         go (table rs) i = let z : ◌≡◌ {A = ℕ} 0 1 = cc in absurd (omega arith)
         go (no_table k) i = let j : k ≡ n = cc in ap no_table j
 
@@ -60,7 +61,7 @@ module _ {s counts types : List ℕ} {at : ℕ} {p : Program} (a : Admits s coun
         × ((m : Numbers) → m ≡ fresh n → Seated s counts (seat_of at m) h d p (begin p rs))
 
     pub image_seated : {n : ℕ} (h d h' d' : List ℕ) → length h ≡ head_size * max_instances → length d ≡ row_size * max_instances
-        → TableLaid counts types h d told h' d' → table_told (length counts) told ≡ Instances n → SeatsFresh n h' d'
+        → TableLaid counts types h d told h' d' → table_told (length counts) told ≡ Ok n → SeatsFresh n h' d'
     image_seated {n} h d h' d' long wide laid e = go (tabled p.params y) refl
       where
         counted : Counts p
@@ -68,7 +69,7 @@ module _ {s counts types : List ℕ} {at : ℕ} {p : Program} (a : Admits s coun
 
         go : (q : TableAnswer) → tabled p.params y ≡ q → SeatsFresh n h' d'
         go (table rs) q =
-            let i : table_told (structs p) (table rs) ≡ Instances n = ap (table_told (structs p)) (sym q) ∙ sym came ∙ e in
+            let i : table_told (structs p) (table rs) ≡ Ok n = ap (table_told (structs p)) (sym q) ∙ sym came ∙ e in
             let k : n ≡ structs p + length rs = cc in
             let w : TableLaid (arities p) (types_table p.params) h d (tabled (lists_of (arities p) (types_table p.params)) y) h' d' =
             rw (a.admitted.counted, a.typed) at laid in
@@ -86,9 +87,13 @@ module _ {s counts types : List ℕ} {at : ℕ} {p : Program} (a : Admits s coun
               },
             )
         go (no_table k) q =
-            let i : table_told (structs p) (no_table k) ≡ Instances n = ap (table_told (structs p)) (sym q) ∙ sym came ∙ e in
+            let i : table_told (structs p) (no_table k) ≡ Ok n = ap (table_told (structs p)) (sym q) ∙ sym came ∙ e in
             let z : ◌≡◌ {A = ℕ} 0 1 = cc in
             absurd (omega arith)
+
+-- the parameters of a program that is opened
+pub opens_tabled : {o : Opened} {s rows : List ℕ} {p : Program} → Opens o s rows p → Tabled o
+opens_tabled o = admitted_tables (opens_admits o)
 
 -- Program and table ------------------------------------------------------------------------
 

@@ -1,15 +1,17 @@
 -- What an entry on images stands on before it acts (01, 'Numbers from the input'): an accepted program in memory, and a machine in memory beside it. A table
 -- is one way to be seated.
-use Rattle.std.specs.Prelude.{ℕ, ◌+◌, ◌*◌, ◌≤◌, ◌≡◌, List, length, take}
+use Rattle.std.specs.Prelude.{ℕ, ◌+◌, ◌*◌, ◌≤◌, ◌≡◌, List, length, take, Result, Ok, Err}
 use Rattle.types.specs.Limits.{max_structs, max_params, max_commands, schedule_items}
-use Rattle.types.specs.Stages.{Stage.went as table, Stage.stopped as no_table}
+use Rattle.types.specs.Stages.{Stage.went as table, Stage.stopped as no_table, Stage.went as accepted, Stage.stopped as refused}
+use Rattle.types.specs.Refusals.{number}
+use Rattle.types.specs.declared.refusal.Refusal.{Refusal}
 use Rattle.program.specs.Tree.{Program}
 use Rattle.program.specs.Reader.{Result.ok}
 use Rattle.commands.specs.Bounds.{arities, program_depth}
 use Rattle.directory.specs.Directory.{directory}
 use Rattle.directory.specs.Rows.{row_places, rows_from}
 use Rattle.emit.specs.Written.{structs_at}
-use Rattle.verdict.specs.Verdict.{listed}
+use Rattle.verdict.specs.Verdict.{checked, listed}
 use Rattle.judge.specs.ProgramFacts.{types_table}
 use Rattle.table.specs.Table.{Record}
 use Rattle.machine.specs.Published.{of_items}
@@ -17,19 +19,16 @@ use Rattle.machine.specs.Machine.{Machine}
 use Rattle.run.specs.Begin.{begin}
 use Rattle.run.specs.Entry.{tabled}
 use Rattle.sound.specs.Invariant.{Good}
-use Rattle.sound.specs.Tabled.{Tabled}
+use Rattle.sound.specs.Tabled.{Tabled as Started}
 use Rattle.layout.specs.declared.Numbers.{Numbers}
 use Rattle.layout.specs.State.{state_of}
 use Rattle.memory.specs.Choose.{Kept}
 use Rattle.memory.specs.Plan.{At}
 use Rattle.memory.specs.Stands.{Stands}
 use Rattle.load.specs.Load.{Admitted}
-use Rattle.table_read.specs.declared.TableRead.{TableRead}
-use Rattle.table_read.specs.declared.TableRead.TheVariants.{Instances, Refused as Refuses}
+use Rattle.table_read.specs.Params.{Tables}
 use Rattle.seating.specs.declared.Opened.{Opened}
 use Rattle.seating.specs.declared.Seat.{Seat}
-use Rattle.seating.specs.declared.SeatRead.{SeatRead}
-use Rattle.seating.specs.declared.SeatRead.TheVariants.{Taken, Refused}
 
 -- An accepted program in memory --------------------------------------------------------
 
@@ -48,8 +47,24 @@ pub record Opens (o : Opened) (s rows : List ℕ) (p : Program) : Type 0 where
   pub wide : (length o.counts ≡ max_structs) × (length o.types ≡ max_structs * max_params)
   pub long : row_places * o.loaded.steps ≤ length rows
 
+-- its parameters as two tables: for each struct how many, and eight places with the bytes of their types
+abbrev pub counts_of : Opened → List ℕ
+counts_of o = take o.loaded.structs o.counts
+
+abbrev pub types_of : Opened → List ℕ
+types_of o = take (max_params * o.loaded.structs) o.types
+
+abbrev pub Tabled : Opened → Type 0
+Tabled o = Tables (counts_of o) (types_of o)
+
 abbrev pub Opening : Opened → List ℕ → List ℕ → Type 0
 Opening o s rows = (p : Program) × (Opens o s rows p)
+
+-- the image x is refused by a number, or its program is opened, with its stream in the front of s
+abbrev pub OpensImage : List ℕ → Result Opened Refusal → List ℕ → List ℕ → Type 0
+OpensImage x (Err n) s rows = checked x ≡ refused (number n)
+OpensImage x (Ok o) s rows =
+    (p : Program) × (checked x ≡ accepted p) × (o.loaded.length ≤ length s) × (Opens o (take o.loaded.length s) rows p)
 
 -- of some stream, its parameters alone
 pub record Admits (s counts types : List ℕ) (at : ℕ) (p : Program) : Type 0 where
@@ -70,7 +85,7 @@ seat_of at n = record { at = at; numbers = n }
 pub record Seated (s counts : List ℕ) (seat : Seat) (heads cells : List ℕ) (p : Program) (m : Machine) : Type 0 where
   pub admitted : Admitted s counts seat.at p
   pub good : Good p m
-  pub tabled : Tabled p m.instances
+  pub tabled : Started p m.instances
   pub kept : Kept (state_of seat.numbers heads cells)
   pub counting : seat.numbers.from ≡ m.from
   pub stands : (list items : List ℕ) → At items 0 (of_items p.schedule) → Stands (listed p list) (At items) m (state_of seat.numbers heads cells)
@@ -80,21 +95,12 @@ Seating s counts seat heads cells = (p : Program) × (m : Machine) × (Seated s 
 
 -- The machine that a table begins with ---------------------------------------------------
 
--- the number of a refusal; where there is none, 0
-abbrev pub table_refusal : TableRead → ℕ
-table_refusal (Instances n) = 0
-table_refusal (Refuses n) = n
-
-abbrev pub seat_refusal : SeatRead → ℕ
-seat_refusal (Taken z) = 0
-seat_refusal (Refused n) = n
-
 -- under p the table image y is refused with that number, or the machine that its records begin with is seated
-abbrev pub SeatedTable : List ℕ → List ℕ → Program → List ℕ → SeatRead → List ℕ → List ℕ → Type 0
-SeatedTable s counts p y (Refused n) heads cells = tabled p.params y ≡ no_table n
-SeatedTable s counts p y (Taken z) heads cells =
+abbrev pub SeatedTable : List ℕ → List ℕ → Program → List ℕ → Result Seat ℕ → List ℕ → List ℕ → Type 0
+SeatedTable s counts p y (Err n) heads cells = tabled p.params y ≡ no_table n
+SeatedTable s counts p y (Ok z) heads cells =
     (rs : List Record) × (tabled p.params y ≡ table rs) × (Seated s counts z heads cells p (begin p rs))
 
 -- whatever program is admitted
-abbrev pub SeatsTable : ℕ → List ℕ → List ℕ → List ℕ → SeatRead → List ℕ → List ℕ → Type 0
+abbrev pub SeatsTable : ℕ → List ℕ → List ℕ → List ℕ → Result Seat ℕ → List ℕ → List ℕ → Type 0
 SeatsTable at counts types y r heads cells = (s : List ℕ) (p : Program) → Admits s counts types at p → SeatedTable s counts p y r heads cells

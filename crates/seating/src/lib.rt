@@ -4,17 +4,19 @@
 
 ghost use Rattle.std.specs.Prelude.{◌≡◌, ◌*◌, ◌≤◌, length};
 ghost use Rattle.types.specs.Limits.{max_structs, max_params, table_blocks, max_instances};
+ghost use Rattle.types.specs.Refusals.{numbered};
 ghost use Rattle.block.specs.Block.{payload_size};
 ghost use Rattle.blocks.specs.Images.{stream};
 ghost use Rattle.directory.specs.Rows.{directory_places};
 ghost use Rattle.verdict.specs.Verdict.{checked};
 ghost use Rattle.layout.specs.Layout.{head_size, row_size};
 ghost use Rattle.load.specs.Load.{load_told, RowsHeld, Held};
-ghost use Rattle.seating.specs.Seated.{most_bytes, table_refusal, seat_refusal, Admitting, SeatsTable};
+ghost use Rattle.seating.specs.Seated.{most_bytes, counts_of, types_of, Tabled, OpensImage, SeatsTable};
 
 use layout::Numbers;
-use load::{Load, Loaded};
-use table_read::TableRead;
+use load::Loaded;
+use table_read::Parameters;
+use types::refusal::Refusal;
 
 // Bytes that the stream of an accepted program has at most: five for a command, three for a scheduled item, and what structs and steps take.
 pub const SHORT: usize = 2
@@ -37,30 +39,16 @@ pub struct Seat {
     pub numbers: Numbers,
 }
 
-// The seat of a machine, or the number of a refusal.
-#[derive(Clone, Copy)]
-pub enum SeatRead {
-    Taken(Seat),
-    Refused(u8),
-}
-
-// The number of a refusal; 0 where there is none.
-pub fn refusal(r: SeatRead) -> u8
-    ensures { result ≡ seat_refusal r }
+// The parameters of an accepted program.
+pub fn parameters(o: &Opened) -> Parameters<'_>
+    requires { (o.now.loaded.structs ≤ max_structs) × Tabled o.now }
+    ensures { (result.counts.now ≡ counts_of o.now) × (result.types.now ≡ types_of o.now) }
 {
-    let SeatRead::Refused(n) = r else {
-        return 0;
-    };
-    n
-}
-
-fn table_refusal(r: TableRead) -> u8
-    ensures { result ≡ table_refusal r }
-{
-    let TableRead::Refused(n) = r else {
-        return 0;
-    };
-    n
+    let structs = usize::from(o.loaded.structs);
+    Parameters::new(
+        &o.counts[..structs],
+        &o.types[..types::MAX_PARAMS * structs],
+    )
 }
 
 // A program image, as `load::program` has it, into a buffer that the stream of an accepted program fits: the room for a longer one is given back before
@@ -71,45 +59,52 @@ pub fn admit(
     counts: &mut [u8],
     types: &mut [u8],
     rows: &mut [u16],
-) -> Load
+) -> Result<Loaded, Refusal>
     requires most_bytes_in_bounds { most_bytes ≤ length buffer.old }
     requires counts_len { (length counts.old ≡ max_structs) × (length types.old ≡ max_structs * max_params) }
     requires directory_places_in_bounds { directory_places ≤ length rows.old }
-    ensures value { result ≡ load_told (checked image.now) (stream image.now) }
+    ensures value { numbered result ≡ load_told (checked image.now) (stream image.now) }
     ensures held { Held (checked image.now) (stream image.now) buffer.old buffer.new
         counts.old counts.new types.old types.new }
     ensures rows_held { RowsHeld (checked image.now) rows.new }
 {
     let mut stream = [0u8; types::PROGRAM_BLOCKS * blocks::PAYLOAD_SIZE];
-    let r = load::program(image, &mut stream, counts, types, rows);
-    let Load::Program(p) = r else {
-        return r;
-    };
+    let p = load::program(image, &mut stream, counts, types, rows)?;
     let n = p.length;
     block::put::copy(buffer, 0, &stream[..n]);
-    r
+    Ok(p)
+}
+
+// A program image that is accepted, as it was loaded and with its parameters; its stream and the rows of its step directory stand in the lent room.
+pub fn open_program(image: &[u8], stream: &mut [u8], rows: &mut [u16]) -> Result<Opened, Refusal>
+    requires most_bytes_in_bounds { most_bytes ≤ length stream.old }
+    requires directory_places_in_bounds { directory_places ≤ length rows.old }
+    ensures { OpensImage image.now result stream.new rows.new }
+{
+    let mut counts = [0u8; types::MAX_STRUCTS];
+    let mut types = [0u8; types::MAX_STRUCTS * types::MAX_PARAMS];
+    let loaded = admit(image, stream, &mut counts, &mut types, rows)?;
+    Ok(Opened {
+        loaded,
+        counts,
+        types,
+    })
 }
 
 // The machine that a table image begins with, beside an accepted program whose steps begin at a place. The buffer is free afterwards.
 pub fn seat_table(
     at: usize,
-    counts: &[u8],
-    types: &[u8],
+    p: Parameters,
     table: &[u8],
     buffer: &mut [u8],
     heads: &mut [u16],
     cells: &mut [u64],
-) -> SeatRead
-    requires admitting { Admitting counts.now types.now at }
+) -> Result<Seat, Refusal>
     requires heads_len { (length heads.old ≡ head_size * max_instances) × (length cells.old ≡ row_size * max_instances) }
     requires table_blocks_in_bounds { payload_size * table_blocks ≤ length buffer.old }
-    ensures { SeatsTable at counts.now types.now table.now result heads.new cells.new }
+    ensures { SeatsTable at p.entry.counts.now p.entry.types.now table.now (numbered result) heads.new cells.new }
 {
-    let read = table_read::read_image(table, counts, types, buffer, heads, cells);
-    let TableRead::Instances(count) = read else {
-        return SeatRead::Refused(table_refusal(read));
-    };
+    let count = table_read::read_image(table, p, buffer, heads, cells)?;
     let numbers = layout::fresh(count);
-    let seat = Seat { at, numbers };
-    SeatRead::Taken(seat)
+    Ok(Seat { at, numbers })
 }

@@ -1,10 +1,11 @@
 -- Lines that are written one behind the other: those of a row by its commands, and those of rows.
-use Rattle.std.specs.Prelude.{ℕ, suc, ◌+◌, ◌-◌, ◌<◌, ◌≡◌, refl, List, [], ◌∷◌, ◌++◌, length, get_or, take, drop}
-use Rattle.std.proofs.Common.{arith, zero-add, add-suc, suc-add, add-zero, add-one, sym, ap, ◌∙◌, append_assoc, append-nil, length-drop, take-suc, get_or-drop, length-take-le}
+use Rattle.std.specs.Prelude.{ℕ, suc, ◌+◌, ◌-◌, ◌≤◌, ◌<◌, ◌≡◌, refl, List, [], ◌∷◌, ◌++◌, length, get_or, take, drop}
+use Rattle.std.proofs.Common.{arith, zero-add, add-suc, suc-add, add-zero, add-one, sym, ap, ◌∙◌, append_assoc, append-nil, length-drop, take-suc, length-take-le, take_all}
 use Rattle.program.specs.Encoding.{flat}
 use Rattle.commands.specs.Bounds.{total}
 use Rattle.directory.specs.declared.Row.{Row}
 use Rattle.directory.specs.Rows.{row_at, rows_from}
+use Rattle.directory.specs.Held.{part}
 use Rattle.directory.proofs.RowsLaws.{rows_next, rows_last}
 use Rattle.directory.proofs.DirectoryLaws.{sizes}
 use Rattle.text.specs.Listing.{Placed, line}
@@ -18,29 +19,36 @@ unfolding word_lines
 word_lines_last k n i [] w = rw (append-nil, add-zero)
 word_lines_last k n i (v ∷ ws) w = rw (add-suc, ← suc-add, word_lines_last k n (suc i) ws w) (sym (append_assoc (line k n i v) _ _))
 
-module _ (k n : ℕ) (list : List ℕ) (start : ℕ) (out : List ℕ) (at : ℕ) where
+module _ (k n : ℕ) (ws : List ℕ) (out : List ℕ) (at : ℕ) where
   abbrev lines : ℕ → List ℕ
-  lines i = word_lines k n 0 (take i (drop start list))
+  lines i = word_lines k n 0 (take i ws)
 
   pub no_lines : Placed (lines 0) out at at out
   unfolding word_lines
   no_lines = placed_none out at
 
   -- one more
-  pub more_lines : (i : ℕ) → start + i < length list → {m r : ℕ} {out1 out2 : List ℕ} → Placed (lines i) out at m out1
-      → Placed (line k n i (get_or list (start + i) 0)) out1 m r out2 → Placed (lines (i + 1)) out at r out2
+  pub more_lines : (i : ℕ) → i < length ws → {m r : ℕ} {out1 out2 : List ℕ} → Placed (lines i) out at m out1
+      → Placed (line k n i (get_or ws i 0)) out1 m r out2 → Placed (lines (i + 1)) out at r out2
   more_lines i h p q =
-      let l = length-drop start list in
-      let e : take (i + 1) (drop start list) ≡ take i (drop start list) ++ get_or list (start + i) 0 ∷ [] =
-      rw (add-one) (take-suc (drop start list) i 0 (omega arith) ∙ rw (get_or-drop start list i 0)) in
-      let f : length (take i (drop start list)) ≡ i = length-take-le i (drop start list) (omega arith) in
-      placed_as (ap (word_lines k n 0) e ∙ word_lines_last k n 0 (take i (drop start list)) _ ∙ rw (f, zero-add)) (placed_on p q)
+      let e : take (i + 1) ws ≡ take i ws ++ get_or ws i 0 ∷ [] = rw (add-one) (take-suc ws i 0 h) in
+      let f : length (take i ws) ≡ i = length-take-le i ws (omega arith) in
+      placed_as (ap (word_lines k n 0) e ∙ word_lines_last k n 0 (take i ws) _ ∙ rw (f, zero-add)) (placed_on p q)
+
+-- the part of the list that a row marks, as the code takes it
+pub part_taken : (list : List ℕ) (r : Row) (start size : ℕ) → start ≡ r.start → size ≡ r.size → r.start + r.size ≤ length list
+    → (take (start + size - start) (drop start list) ≡ part list r) × (length (take (start + size - start) (drop start list)) ≡ r.size)
+part_taken list r start size a b h =
+    let e : start + size - start ≡ size = omega arith in (
+      rw (e, a, b),
+      rw (e, a, b) (length-take-le r.size (drop r.start list) (omega (arith, length-drop r.start list))),
+    )
 
 -- all of a row
-pub row_placed : (list : List ℕ) (r : Row) (k n start i size : ℕ) → k ≡ r.structure → n ≡ r.name → start ≡ r.start → size ≡ r.size → i ≡ size
-    → {out out' : List ℕ} {at m : ℕ} → Placed (lines k n list start out at i) out at m out' → Placed (row_lines list r) out at m out'
+pub row_placed : (list : List ℕ) (r : Row) (ws : List ℕ) (i : ℕ) → ws ≡ part list r → length ws ≤ i
+    → {out out' : List ℕ} {at m : ℕ} → Placed (lines r.structure r.name ws out at i) out at m out' → Placed (row_lines list r) out at m out'
 unfolding row_lines
-row_placed list r k n start i size a b c d e p = placed_as (rw (e, a, b, c, d) refl) p
+row_placed list r ws i e h p = placed_as (rw (← e, take_all)) p
 
 -- Rows ---------------------------------------------------------------------------------
 

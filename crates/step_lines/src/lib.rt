@@ -1,22 +1,14 @@
 // The lines of a program's steps: the directory gives each step's struct, name and place, the list its commands (01, 'Bench rows').
 #![tactic(auto)]
 
-ghost use Rattle.std.specs.Prelude.{◌≡◌, ◌+◌, ◌*◌, ◌<◌, ◌≤◌, length};
+ghost use Rattle.std.specs.Prelude.{◌+◌, ◌*◌, ◌≤◌, length};
 ghost use Rattle.directory.specs.Rows.{rows_from};
 ghost use Rattle.text.specs.Listing.{Placed};
 ghost use Rattle.step_lines.specs.RowLines.{line_most, RowFits, row_lines, rows_lines, Listable};
 
 use directory::Row;
-use directory::rows::{place, row_at};
+use directory::rows::row_at;
 use text::lines::line;
-
-// A number of a row as a byte.
-fn byte(n: u16) -> u8
-    requires { n < 256 }
-    ensures { result ≡ n }
-{
-    n as u8
-}
 
 // The lines of a row's step, with positions from 0 on.
 fn step(list: &[u64], r: Row, out: &mut [u8], k: usize) -> usize
@@ -24,15 +16,11 @@ fn step(list: &[u64], r: Row, out: &mut [u8], k: usize) -> usize
     ensures placed { Placed (row_lines list.now r) out.old k result out.new }
     ensures upper_bound { result ≤ k + line_most * r.size }
 {
-    let of = byte(r.structure);
-    let name = byte(r.name);
-    let start = place(r.start);
-    let size = place(r.size);
-    let mut i = 0;
+    let start = usize::from(r.start);
+    let commands = &list[start..start + usize::from(r.size)];
     let mut at = k;
-    while i < size {
-        at = line(out, at, of, name, i as u64, list[start + i]);
-        i += 1;
+    for (i, w) in commands.iter().enumerate() {
+        at = line(out, at, r.structure as u8, r.name as u8, i as u64, *w);
     }
     at
 }
@@ -43,11 +31,9 @@ pub fn program(rows: &[u16], n: usize, list: &[u64], out: &mut [u8], k: usize) -
     ensures placed { Placed (rows_lines list.now (rows_from rows.now 0 n)) out.old k result out.new }
     ensures upper_bound { result ≤ length out.old }
 {
-    let mut i = 0;
     let mut at = k;
-    while i < n {
+    for i in 0..n {
         at = step(list, row_at(rows, i), out, at);
-        i += 1;
     }
     at
 }

@@ -1,11 +1,9 @@
 -- Where the commands of a step stand in the list, and that part of it (01, 'Names, types, commands'), as the step directory has it. A
 -- refused image and a short list have the number that a check answers.
-use Rattle.std.specs.Prelude.{ℕ, List, take, drop}
+use Rattle.std.specs.Prelude.{ℕ, List, take, drop, Option as Maybe, Some, None}
 use Rattle.std.proofs.Math.Option.{Option, none, some}
 use Rattle.types.specs.Stages.{Stage.went as accepted, Stage.stopped as refused}
 use Rattle.directory.specs.declared.Row.{Row}
-use Rattle.directory.specs.declared.rows.Sought.{Sought}
-use Rattle.directory.specs.declared.rows.Sought.TheVariants.{Here, Nowhere}
 use Rattle.directory.specs.Directory.{directory, find_row}
 use Rattle.verdict.specs.Verdict.{Checked, checks}
 use Rattle.step_part.specs.declared.Spot.{Spot}
@@ -20,9 +18,9 @@ spot_of none = nowhere 0
 spot_of (some r) = record { number = 0; start = r.start; len = r.size }
 
 -- as the search for it answers
-abbrev pub spot_at : Sought → Spot
-spot_at Nowhere = nowhere 0
-spot_at (Here r) = spot_of (some r)
+abbrev pub spot_at : Maybe Row → Spot
+spot_at None = nowhere 0
+spot_at (Some r) = spot_of (some r)
 
 unfoldable pub spot_by : Checked → ℕ → ℕ → Spot
 spot_by (refused m) k n = nowhere m

@@ -5,8 +5,8 @@ ghost use Rattle.std.specs.Prelude.{◌≡◌};
 ghost use Rattle.verdict.specs.Verdict.{checked};
 ghost use Rattle.step_part.specs.StepPart.{nowhere, spot_at, spot_by, step_place, step_part};
 
-use directory::rows::{ROWS, Sought, find, place};
-use load::Load;
+use directory::Row;
+use directory::rows::{ROWS, find};
 
 // 01's number of a refused image or of a short list, else 0; the place of the step's first command, and how many it has.
 #[derive(Clone, Copy)]
@@ -28,16 +28,16 @@ fn nowhere(number: u8) -> Spot
 }
 
 // Where the commands of a row stand, if one was found.
-fn spotted(r: Sought) -> Spot
+fn spotted(r: Option<Row>) -> Spot
     ensures { result ≡ spot_at r }
 {
-    let Sought::Here(found) = r else {
+    let Some(found) = r else {
         return nowhere(0);
     };
     Spot {
         number: 0,
-        start: place(found.start),
-        len: place(found.size),
+        start: usize::from(found.start),
+        len: usize::from(found.size),
     }
 }
 
@@ -50,8 +50,9 @@ fn locate(image: &[u8], structure: u8, name: u8) -> Spot
     let mut types = [0u8; types::MAX_STRUCTS * types::MAX_PARAMS];
     let mut rows = [0u16; ROWS];
     let r = load::program(image, &mut stream, &mut counts, &mut types, &mut rows);
-    let Load::Program(p) = r else {
-        return nowhere(load::refusal(r));
+    let p = match r {
+        Ok(p) => p,
+        Err(refusal) => return nowhere(u8::from(refusal)),
     };
     spotted(find(&rows, p.steps, structure, name))
 }

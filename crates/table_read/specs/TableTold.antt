@@ -1,19 +1,17 @@
 -- What the reader of a table answers, and what it leaves in memory (01, 'Table and turns', and numbers 11 and 12).
-use Rattle.std.specs.Prelude.{ℕ, ◌+◌, ◌≡◌, List, [], ◌∷◌, length}
+use Rattle.std.specs.Prelude.{ℕ, ◌+◌, ◌≡◌, List, [], ◌∷◌, length, Result as Answer, Ok, Err}
 use Rattle.types.specs.Types.{Ty}
 use Rattle.types.specs.Stages.{Stage.went as table, Stage.stopped as no_table}
 use Rattle.program.specs.Reader.{then, many, ended}
 use Rattle.table.specs.Table.{count_bytes}
 use Rattle.table.specs.TableReader.{read_record, TableAnswer, table_answer}
-use Rattle.table_read.specs.declared.TableRead.{TableRead}
-use Rattle.table_read.specs.declared.TableRead.TheVariants.{Instances, Refused}
 use Rattle.table_read.specs.Params.{lists_of}
 use Rattle.table_read.specs.Laid.{heads_laid, rows_laid, all_records}
 
 -- the instances of a table with S null ones, or the number of a refusal
-abbrev pub table_told : ℕ → TableAnswer → TableRead
-table_told S (table rs) = Instances (S + length rs)
-table_told S (no_table n) = Refused n
+abbrev pub table_told : ℕ → TableAnswer → Answer ℕ ℕ
+table_told S (table rs) = Ok (S + length rs)
+table_told S (no_table n) = Err n
 
 -- what a stream comes to whose N is n
 unfoldable pub behind_count : List (List Ty) → List ℕ → ℕ → TableAnswer

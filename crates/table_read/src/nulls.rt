@@ -3,8 +3,10 @@ ghost use Rattle.std.specs.Prelude.{◌≡◌, map, ◌+◌, ◌*◌, ◌≤◌,
 ghost use Rattle.types.specs.Types.{type_of};
 ghost use Rattle.types.specs.Values.{default, word};
 ghost use Rattle.layout.specs.Layout.{head_size, row_size, cell};
-ghost use Rattle.table_read.specs.Params.{Tables, types_from, lists_of};
+ghost use Rattle.table_read.specs.Params.{types_from, lists_of};
 ghost use Rattle.table_read.specs.Laid.{values_laid, null_records, heads_laid, rows_laid};
+
+use crate::parameters::Parameters;
 
 // The cell of a type's default.
 fn null_cell(t: u8) -> u64
@@ -20,31 +22,26 @@ fn defaults(types: &[u8], from: usize, n: usize, cells: &mut [u64], place: usize
     ensures { cells.new
         ≡ values_laid types.now from cells.old place (map default (types_from types.now from n)) }
 {
-    let mut x = 0;
-    while x < n {
+    for x in 0..n {
         cells[place + x] = null_cell(types[from + x]);
-        x += 1;
     }
 }
 
 // The null instances of all structs, as the first instances.
-pub(crate) fn nulls(counts: &[u8], types: &[u8], heads: &mut [u16], cells: &mut [u64])
-    requires tables { Tables counts.now types.now }
-    requires counts_in_bounds { (head_size * length counts.now ≤ length heads.old) × (row_size * length counts.now ≤ length cells.old) }
-    ensures heads_after { heads.new ≡ heads_laid heads.old 0 (null_records 0 (lists_of counts.now types.now)) }
+pub(crate) fn nulls(p: Parameters, heads: &mut [u16], cells: &mut [u64])
+    requires { (head_size * length p.counts.now ≤ length heads.old) × (row_size * length p.counts.now ≤ length cells.old) }
+    ensures heads_after { heads.new ≡ heads_laid heads.old 0 (null_records 0 (lists_of p.entry.counts.now p.entry.types.now)) }
     ensures cells_after { cells.new
-        ≡ rows_laid types.now cells.old 0 (null_records 0 (lists_of counts.now types.now)) }
+        ≡ rows_laid p.entry.types.now cells.old 0 (null_records 0 (lists_of p.entry.counts.now p.entry.types.now)) }
 {
-    let mut k = 0;
-    while k < counts.len() {
+    for (k, count) in p.counts.iter().enumerate() {
         layout::seat(heads, k, k);
         defaults(
-            types,
+            p.types,
             types::MAX_PARAMS * k,
-            little_endian::index(counts[k]),
+            little_endian::index(*count),
             cells,
             layout::ROW_SIZE * k,
         );
-        k += 1;
     }
 }

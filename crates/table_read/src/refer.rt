@@ -1,22 +1,19 @@
 // Whether the references of the instances in memory are right, which is judged after everything else (01, 'Table and turns').
 ghost use Rattle.std.specs.Prelude.{◌≡◌, ◌+◌, ◌-◌, ◌*◌, ◌≤◌, length};
 ghost use Rattle.layout.specs.Layout.{head_size, row_size};
-ghost use Rattle.table_read.specs.Params.{Tables};
 ghost use Rattle.table_read.specs.Refer.{cell_refers, row_refers, rows_refer, Structs};
+
+use crate::parameters::Parameters;
 
 // Whether a cell of the type t names one of the first n instances, of the type's struct; a cell of another type names none.
 fn cell_refers(heads: &[u16], n: usize, t: u8, c: u64) -> bool
     requires { head_size * n ≤ length heads.now }
     ensures { result ≡ cell_refers heads.now n t c }
 {
-    if !types::is_reference(t) {
-        return true;
-    }
     let l = layout::operand(c) as usize;
-    if n <= l {
-        return false;
-    }
-    layout::head(heads, l, layout::STRUCT) == little_endian::index(types::struct_of(t))
+    !types::is_reference(t)
+        || l < n
+            && layout::head(heads, l, layout::STRUCT) == little_endian::index(types::struct_of(t))
 }
 
 // The m cells from a place on, whose types stand from another.
@@ -32,45 +29,34 @@ fn row_refers(
     requires { (head_size * n ≤ length heads.now) × (from + m ≤ length types.now) × (place + m ≤ length cells.now) }
     ensures { result ≡ row_refers heads.now n types.now from cells.now place m }
 {
-    let mut x = 0;
-    while x < m {
+    for x in 0..m {
         if !cell_refers(heads, n, types[from + x], cells[place + x]) {
             return false;
         }
-        x += 1;
     }
     true
 }
 
 // The parameters of the instances from one up to below n.
 pub(crate) fn rows_refer(
-    counts: &[u8],
-    types: &[u8],
+    p: Parameters,
     heads: &[u16],
     cells: &[u64],
     first: usize,
     n: usize,
 ) -> bool
-    requires tables { Tables counts.now types.now × Structs heads.now n (length counts.now) }
+    requires structs { Structs heads.now n (length p.counts.now) }
     requires first_le_n { (first ≤ n) × (head_size * n ≤ length heads.now) × (row_size * n ≤ length cells.now) }
-    ensures { result ≡ rows_refer counts.now types.now heads.now cells.now n first (n - first) }
+    ensures { result ≡ rows_refer p.entry.counts.now p.entry.types.now heads.now cells.now n first (n - first) }
 {
-    let mut l = first;
-    while l < n {
+    for l in first..n {
         let k = layout::head(heads, l, layout::STRUCT);
-        let m = little_endian::index(counts[k]);
-        if !row_refers(
-            heads,
-            n,
-            types,
-            types::MAX_PARAMS * k,
-            cells,
-            layout::ROW_SIZE * l,
-            m,
-        ) {
+        let m = little_endian::index(p.counts[k]);
+        let from = types::MAX_PARAMS * k;
+        let place = layout::ROW_SIZE * l;
+        if !row_refers(heads, n, p.types, from, cells, place, m) {
             return false;
         }
-        l += 1;
     }
     true
 }

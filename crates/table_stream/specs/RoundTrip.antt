@@ -1,10 +1,11 @@
 -- Numbers that are accepted are those that their stream has as a table: what was read, written again, is what was read.
-use Rattle.std.specs.Prelude.{ℕ, suc, ◌+◌, refl, Bool, true, false, List, [], ◌∷◌, eqb, ltb, length}
+use Rattle.std.specs.Prelude.{ℕ, suc, ◌+◌, refl, Bool, true, false, List, [], ◌∷◌, eqb, ltb, length, Result, Ok, Err}
 use Rattle.std.proofs.Common.{arith, eqb-true}
 use Rattle.std.proofs.Math.Path.{◌≡◌}
 use Rattle.table_words.specs.TableWords.{table_words}
 use Rattle.table_stream.specs.TableStream.{agreed_from, judged, made, stream_of}
-use Rattle.table_stream.specs.declared.Made.TheVariants.{Stream, NoRecord, Short}
+use Rattle.table_stream.specs.declared.NoTable.{NoTable}
+use Rattle.table_stream.specs.declared.NoTable.TheVariants.{NoRecord, Short}
 
 -- lists of one length that agree up to it are equal
 agreed_same : (i : ℕ) (xs ys : List ℕ) → agreed_from i xs ys ≡ i + length xs → length ys ≡ length xs → ys ≡ xs
@@ -20,35 +21,36 @@ agreed_same i (x ∷ xs) (y ∷ ys) e l = go (eqb x y) refl e (agreed_same (i + 
     go false f e h = absurd (omega arith)
 
 module _ (room n m : ℕ) (ws back : List ℕ) where
-  judged_same : judged room n ws back ≡ Stream m → back ≡ ws
+  judged_same : judged room n ws back ≡ Ok m → back ≡ ws
   unfolding judged
   judged_same e = first (ltb room n) e
     where
-      none : {k : ℕ} → NoRecord k ≡ Stream m → back ≡ ws
+      none : {k : ℕ} → ◌≡◌ {A = Result ℕ NoTable} (Err (NoRecord k)) (Ok m) → back ≡ ws
       none f = let z : ◌≡◌ {A = ℕ} 0 1 = cc in absurd (omega arith)
 
       third : (t : Bool) → agreed_from 0 ws back ≡ length ws → eqb (length back) (length ws) ≡ t
-          → elim t [ true ↦ Stream n | false ↦ NoRecord (length ws) ] ≡ Stream m → back ≡ ws
+          → ◌≡◌ {A = Result ℕ NoTable} (elim t [ true ↦ Ok n | false ↦ Err (NoRecord (length ws)) ]) (Ok m) → back ≡ ws
       third true a f g = agreed_same 0 ws back (omega arith) (eqb-true (length back) (length ws) f)
       third false a f g = none g
 
       second : (t : Bool) → eqb (agreed_from 0 ws back) (length ws) ≡ t
-          → elim t [ true ↦ elim (eqb (length back) (length ws)) [ true ↦ Stream n | false ↦ NoRecord (length ws) ] | false ↦ NoRecord (agreed_from 0 ws back) ]
-          ≡ Stream m → back ≡ ws
+          → ◌≡◌ {A = Result ℕ NoTable}
+          (elim t [ true ↦ elim (eqb (length back) (length ws)) [ true ↦ Ok n | false ↦ Err (NoRecord (length ws)) ] | false ↦ Err (NoRecord (agreed_from 0 ws back)) ])
+          (Ok m) → back ≡ ws
       second true f g = third (eqb (length back) (length ws)) (eqb-true (agreed_from 0 ws back) (length ws) f) refl g
       second false f g = none g
 
       first : (t : Bool)
-          → elim t [
-            | true ↦ Short
+          → ◌≡◌ {A = Result ℕ NoTable} (elim t [
+            | true ↦ Err Short
             | false ↦ elim (eqb (agreed_from 0 ws back) (length ws)) [
-              | true ↦ elim (eqb (length back) (length ws)) [ true ↦ Stream n | false ↦ NoRecord (length ws) ]
-              | false ↦ NoRecord (agreed_from 0 ws back)
+              | true ↦ elim (eqb (length back) (length ws)) [ true ↦ Ok n | false ↦ Err (NoRecord (length ws)) ]
+              | false ↦ Err (NoRecord (agreed_from 0 ws back))
             ]
-          ] ≡ Stream m → back ≡ ws
+          ]) (Ok m) → back ≡ ws
       first true g = let z : ◌≡◌ {A = ℕ} 0 1 = cc in absurd (omega arith)
       first false g = second (eqb (agreed_from 0 ws back) (length ws)) refl g
 
 -- the table that is made of numbers has these numbers
-pub made_again : (cs ts : List ℕ) (S room m : ℕ) (ws : List ℕ) → made cs ts S room ws ≡ Stream m → table_words cs ts S (stream_of ws) ≡ ws
+pub made_again : (cs ts : List ℕ) (S room m : ℕ) (ws : List ℕ) → made cs ts S room ws ≡ Ok m → table_words cs ts S (stream_of ws) ≡ ws
 made_again cs ts S room m ws e = judged_same room (length (stream_of ws)) m ws (table_words cs ts S (stream_of ws)) e

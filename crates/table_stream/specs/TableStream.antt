@@ -1,12 +1,12 @@
 -- Numbers as a table stream (docs/FORMAT.md, 'Tables as text'): each line is a record. The stream is made of structs and values; the numbers are accepted
 -- where they are those that the stream has as a table, label by label and value by value.
-use Rattle.std.specs.Prelude.{ℕ, ◌+◌, ◌-◌, ◌/◌, ◌%◌, Bool, true, false, List, [], ◌∷◌, ◌++◌, eqb, ltb, leb, length}
+use Rattle.std.specs.Prelude.{ℕ, ◌+◌, ◌-◌, ◌/◌, ◌%◌, Bool, true, false, List, [], ◌∷◌, ◌++◌, eqb, ltb, leb, length, Result, Ok, Err}
 use Rattle.types.specs.Limits.{nat_end}
 use Rattle.program.specs.Encoding.{enc_word}
 use Rattle.numbers.specs.Scan.{minus_mark, first_mark}
 use Rattle.table_words.specs.TableWords.{table_words}
-use Rattle.table_stream.specs.declared.Made.{Made}
-use Rattle.table_stream.specs.declared.Made.TheVariants.{Stream, NoRecord, Short}
+use Rattle.table_stream.specs.declared.NoTable.{NoTable}
+use Rattle.table_stream.specs.declared.NoTable.TheVariants.{NoRecord, Short}
 
 -- the number of four bytes of a value: two's complement where it has a minus sign
 unfoldable pub value_number : ℕ → ℕ
@@ -48,15 +48,15 @@ agreed_from i (x ∷ xs) [] = i
 agreed_from i (x ∷ xs) (y ∷ ys) = elim (eqb x y) [ true ↦ agreed_from (i + 1) xs ys | false ↦ i ]
 
 -- what is answered: the stream's length, or how many of the numbers are right; an output that is too short before it
-unfoldable pub judged : ℕ → ℕ → List ℕ → List ℕ → Made
+unfoldable pub judged : ℕ → ℕ → List ℕ → List ℕ → Result ℕ NoTable
 judged room n ws back =
     elim (ltb room n) [
-      | true ↦ Short
+      | true ↦ Err Short
       | false ↦ elim (eqb (agreed_from 0 ws back) (length ws)) [
-        | true ↦ elim (eqb (length back) (length ws)) [ true ↦ Stream n | false ↦ NoRecord (length ws) ]
-        | false ↦ NoRecord (agreed_from 0 ws back)
+        | true ↦ elim (eqb (length back) (length ws)) [ true ↦ Ok n | false ↦ Err (NoRecord (length ws)) ]
+        | false ↦ Err (NoRecord (agreed_from 0 ws back))
       ]
     ]
 
-abbrev pub made : List ℕ → List ℕ → ℕ → ℕ → List ℕ → Made
+abbrev pub made : List ℕ → List ℕ → ℕ → ℕ → List ℕ → Result ℕ NoTable
 made cs ts S room ws = judged room (length (stream_of ws)) ws (table_words cs ts S (stream_of ws))

@@ -6,21 +6,13 @@ ghost use Rattle.std.proofs.lemmas.List.Edits.{sets};
 ghost use Rattle.program.specs.Encoding.{enc_word};
 ghost use Rattle.table_stream.specs.TableStream.{value_number, word_bytes, begins, item_bytes, one_line, stream_of, agreed_from, judged};
 
-// What numbers give: a stream of so many bytes; or how many of them are right; or too short an output.
+use table_words::put;
+
+// Why words give no table: how many of them are right, or an output that is too short.
 #[derive(Clone, Copy)]
-pub enum Made {
-    Stream(usize),
+pub enum NoTable {
     NoRecord(usize),
     Short,
-}
-
-// A byte at a place, where there is such a place.
-fn put(out: &mut [u8], at: usize, b: u8)
-    ensures { out.new ≡ set out.old at b }
-{
-    if at < out.len() {
-        out[at] = b;
-    }
 }
 
 // The number of four bytes of a value.
@@ -29,9 +21,10 @@ fn value_number(w: u64) -> u64
 {
     let v = w % types::NAT_END;
     if w % numbers::FIRST < numbers::MINUS {
-        return v;
+        v
+    } else {
+        (types::NAT_END - v) % types::NAT_END
     }
-    (types::NAT_END - v) % types::NAT_END
 }
 
 // The bytes of a number of four, as far as there are places.
@@ -55,10 +48,11 @@ fn word(out: &mut [u8], at: usize, structure: bool, w: u64) -> usize
 {
     if structure {
         put(out, at, (w % 256) as u8);
-        return at + 1;
+        at + 1
+    } else {
+        put_word(out, at, value_number(w));
+        at + 4
     }
-    put_word(out, at, value_number(w));
-    at + 4
 }
 
 // Whether a word begins a line.
@@ -71,10 +65,7 @@ fn begins(w: u64) -> bool
 fn one_line(w: u64) -> usize
     ensures { (result ≡ one_line w) × (result ≤ 1) }
 {
-    if begins(w) {
-        return 1;
-    }
-    0
+    if begins(w) { 1 } else { 0 }
 }
 
 // The bytes of a word, none of a label; the place behind them.
@@ -84,9 +75,10 @@ fn item(out: &mut [u8], at: usize, structure: bool, w: u64) -> usize
     ensures upper_bound { result ≤ at + 4 }
 {
     if begins(w) {
-        return at;
+        at
+    } else {
+        word(out, at, structure, w)
     }
-    word(out, at, structure, w)
 }
 
 // The stream of words, from the start of out as far as it goes; how long it is.
@@ -98,13 +90,10 @@ pub fn stream(words: &[u64], out: &mut [u8]) -> usize
     let mut at = 2;
     let mut structure = false;
     let mut lines: usize = 0;
-    let mut i = 0;
-    while i < words.len() {
-        let w = words[i];
-        at = item(out, at, structure, w);
-        structure = begins(w);
-        lines += one_line(w);
-        i += 1;
+    for w in words {
+        at = item(out, at, structure, *w);
+        structure = begins(*w);
+        lines += one_line(*w);
     }
     let mut head = [0u8; 2];
     little_endian::put_pair(&mut head, 0, lines);
@@ -117,32 +106,24 @@ pub fn stream(words: &[u64], out: &mut [u8]) -> usize
 fn agreed(a: &[u64], b: &[u64]) -> usize
     ensures { result ≡ agreed_from 0 a.now b.now }
 {
-    let mut i = 0;
-    while i < a.len() {
-        if b.len() <= i {
+    for (i, w) in a.iter().enumerate() {
+        if b.len() <= i || *w != b[i] {
             return i;
         }
-        if a[i] != b[i] {
-            return i;
-        }
-        i += 1;
     }
-    i
+    a.len()
 }
 
-// Whether words are those that their stream has as a table, which are `back`; the stream has n bytes, and there is room for that many.
-pub fn judge(room: usize, n: usize, words: &[u64], back: &[u64]) -> Made
+// The stream of n bytes that was made of words, where they are those that it has as a table, which are `back`, and there is room for it.
+pub fn judge(room: usize, n: usize, words: &[u64], back: &[u64]) -> Result<usize, NoTable>
     ensures { result ≡ judged room n words.now back.now }
 {
     if room < n {
-        return Made::Short;
+        return Err(NoTable::Short);
     }
     let k = agreed(words, back);
-    if k != words.len() {
-        return Made::NoRecord(k);
+    if k != words.len() || back.len() != words.len() {
+        return Err(NoTable::NoRecord(k));
     }
-    if back.len() != words.len() {
-        return Made::NoRecord(k);
-    }
-    Made::Stream(n)
+    Ok(n)
 }

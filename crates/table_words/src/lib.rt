@@ -12,10 +12,7 @@ use little_endian::{index, pair_at, word_at};
 fn look(s: &[u8], at: usize) -> u8
     ensures { result ≡ get_or s.now at 0 }
 {
-    if at < s.len() {
-        return s[at];
-    }
-    0
+    s.get(at).copied().unwrap_or(0)
 }
 
 // The same as a place or a count.
@@ -25,12 +22,12 @@ fn byte(s: &[u8], at: usize) -> usize
     index(look(s, at))
 }
 
-// A word at a place, where there is such a place.
-fn put(out: &mut [u64], at: usize, w: u64)
-    ensures { out.new ≡ set out.old at w }
+// A number at a place, where there is such a place.
+pub fn put<T: Copy>(out: &mut [T], at: usize, x: T)
+    ensures { out.new ≡ set out.old at x }
 {
     if at < out.len() {
-        out[at] = w;
+        out[at] = x;
     }
 }
 
@@ -67,14 +64,9 @@ fn values(types: &[u8], s: &[u8], i: usize, m: usize, at: usize, out: &mut [u64]
     requires { (i < 4096) × (m < 256) × (at < 4000000000) × (n < 4000000000) }
     ensures { out.new ≡ sets out.old n (values_words types.now s.now i m at) }
 {
-    let mut x = 0;
-    while x < m {
-        put(
-            out,
-            n + x,
-            value_word(byte(types, i + x), quad(s, at + 4 * x)),
-        );
-        x += 1;
+    for x in 0..m {
+        let w = value_word(byte(types, i + x), quad(s, at + 4 * x));
+        put(out, n + x, w);
     }
 }
 
@@ -111,12 +103,10 @@ pub fn words(counts: &[u8], types: &[u8], structs: u8, s: &[u8], out: &mut [u64]
     let nulls = index(structs);
     let mut at = 2;
     let mut n = 0;
-    let mut i = 0;
-    while i < m {
+    for i in 0..m {
         let c = row(counts, types, s, at, nulls + i, out, n);
         at = at + 1 + 4 * c;
         n = n + 2 + c;
-        i += 1;
     }
     n
 }

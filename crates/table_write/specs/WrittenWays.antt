@@ -4,7 +4,7 @@ use native.Mathlib.Omega.{arith}
 use Rattle.std.proofs.Common.{add-zero, mul-zero, ◌∙◌}
 use Rattle.std.proofs.Math.Nat.{sub-zero}
 use Rattle.std.proofs.Math.Numerals.{add-one}
-use Rattle.std.specs.Prelude.{◌≡◌, get_or, set, take, drop}
+use Rattle.std.specs.Prelude.{◌≡◌, get_or, set, take, drop, Result, Ok}
 use Rattle.std.proofs.Math.Path.{refl, ap, sym}
 use Rattle.std.proofs.Math.Bool.{true}
 use mathlib.Core.List.{List, ◌++◌}
@@ -14,8 +14,6 @@ use Rattle.std.proofs.Math.Seq.{take-append_seam}
 use borrow.Author.Tests.{le-leb}
 use Rattle.blocks.specs.Images.{stream_right, write, written_into}
 use Rattle.blocks.proofs.WriteWays.{write_done}
-use Rattle.blocks.specs.declared.Written.{Written as Answer}
-use Rattle.blocks.specs.declared.Written.TheVariants.{Blocks}
 use Rattle.little_endian.specs.Numbers.{bytes_of}
 use Rattle.program.specs.Encoding.{enc_word}
 use Rattle.table.specs.Table.{value_bytes, count_bytes}
@@ -26,6 +24,7 @@ use Rattle.emit.specs.Laws.WrittenLaws.{sets_append}
 use Rattle.layout.specs.Layout.{row_size, operand}
 use Rattle.table_read.specs.Refer.{struct_in}
 use Rattle.table_write.specs.Written.{cells_bytes, row_bytes, rows_bytes, memory_stream, memory_blocks, memory_image, Filled}
+use Rattle.blocks.specs.declared.WriteError.{WriteError}
 
 -- Cells ------------------------------------------------------------------------------
 
@@ -117,7 +116,7 @@ module _ (cs h c : List ℕ) (n : ℕ) (f : Filled cs h c n) where
       let e = stream_length cs h c n (count_bytes + length (rows_bytes cs h c (length cs) (n - length cs))) refl in
       omega (arith, rows_bound (length cs) (n - length cs), f.most)
 
-  blocks_written : (room : ℕ) → 8704 ≤ room → write 17 (length (memory_stream cs h c n)) room ≡ Blocks (memory_blocks cs h c n)
+  blocks_written : (room : ℕ) → 8704 ≤ room → write 17 (length (memory_stream cs h c n)) room ≡ Ok (memory_blocks cs h c n)
   unfolding stream_right
   blocks_written room b =
       let s = stream_fits in
@@ -125,7 +124,7 @@ module _ (cs h c : List ℕ) (n : ℕ) (f : Filled cs h c n) where
       sym (write_done 17 len room true (rw (le-leb 1 len (omega arith), le-leb len (504 * 17) (omega arith))) refl (omega arith))
 
   -- a buffer b with the stream, and the output with its blocks
-  module _ (b b' : List ℕ) (len : ℕ) (r : Answer) (o o' : List ℕ) (roomy : 8568 ≤ length b) (e : len ≡ length (memory_stream cs h c n))
+  module _ (b b' : List ℕ) (len : ℕ) (r : Result ℕ WriteError) (o o' : List ℕ) (roomy : 8568 ≤ length b) (e : len ≡ length (memory_stream cs h c n))
       (w : b' ≡ sets b 0 (memory_stream cs h c n)) (room : 8704 ≤ length o) (a : r ≡ write 17 (length (take len b')) (length o))
       (out : o' ≡ written_into r (take len b') o) where
     part : take len b' ≡ memory_stream cs h c n
@@ -134,7 +133,7 @@ module _ (cs h c : List ℕ) (n : ℕ) (f : Filled cs h c n) where
         rw (e, w, from_start b (memory_stream cs h c n) (omega arith))
         (take-append_seam (memory_stream cs h c n) (drop (length (memory_stream cs h c n)) b))
 
-    pub blocks_are : r ≡ Blocks (memory_blocks cs h c n)
+    pub blocks_are : r ≡ Ok (memory_blocks cs h c n)
     blocks_are = a ∙ ap (λ (s : List ℕ). write 17 (length s) (length o)) part ∙ blocks_written (length o) room
 
     pub image_is : o' ≡ memory_image cs h c n o

@@ -9,8 +9,6 @@ ghost use Rattle.types.specs.Limits.{table_blocks};
 ghost use Rattle.block.specs.Block.{block_size, payload_size};
 ghost use Rattle.table_write.specs.Written.{Filled, memory_blocks, memory_image};
 
-use blocks::Written;
-
 // The table of the n instances in memory, in blocks from the start of the output. How many blocks. The buffer has room for every block that is
 // allowed; afterwards it is free, of the length that it had.
 pub fn write(
@@ -28,7 +26,7 @@ pub fn write(
 {
     let len = writing::stream(counts, heads, cells, n, buffer);
     let w = blocks::write_image(&buffer[..len], types::TABLE_BLOCKS, out);
-    let Written::Blocks(k) = w else {
+    let Ok(k) = w else {
         return 0;
     };
     k

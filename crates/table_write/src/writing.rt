@@ -10,14 +10,12 @@ fn values(out: &mut [u8], at: usize, cells: &[u64], place: usize, m: usize)
     requires { (at + value_bytes * m ≤ length out.old) × (place + m ≤ length cells.now) }
     ensures { out.new ≡ sets out.old at (cells_bytes cells.now place m) }
 {
-    let mut x = 0;
-    while x < m {
+    for x in 0..m {
         little_endian::put_word(
             out,
             at + table::VALUE_BYTES * x,
             layout::operand(cells[place + x]),
         );
-        x += 1;
     }
 }
 
@@ -38,15 +36,13 @@ fn instances(
         (rows_bytes counts.now heads.now cells.now first (n - first)) }
 {
     let mut next = at;
-    let mut l = first;
-    while l < n {
+    for l in first..n {
         let k = layout::head(heads, l, layout::STRUCT);
         let m = little_endian::index(counts[k]);
         out[next] = k as u8;
         let first_value = next + table::HEAD_BYTES;
         values(out, first_value, cells, layout::ROW_SIZE * l, m);
         next = first_value + table::VALUE_BYTES * m;
-        l += 1;
     }
     next
 }

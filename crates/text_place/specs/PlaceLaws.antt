@@ -1,7 +1,7 @@
 -- The loops that look for the place at which reading stops, place by place; each way to it; and that behind a token with which no derivation goes on none does.
 use Prim.Native.Nat.{ℕ, suc, ◌+◌, ◌≤◌, ◌<◌}
 use Rattle.std.proofs.Common.{arith, add-one, ◌∙◌, length-drop, length-append, drop-cons, drop-drop, ne_eqb, lt-ltb, le-ltb}
-use Rattle.std.specs.Prelude.{◌≡◌, Bool, not, get_or, replicate, eqb}
+use Rattle.std.specs.Prelude.{◌≡◌, Bool, not, get_or, replicate, eqb, Some, None}
 use Rattle.std.proofs.Math.Path.{refl, sym, ap}
 use Rattle.std.proofs.Math.Bool.{true, false}
 use Rattle.std.proofs.lemmas.Bool.{false≢true, not-true, not-false}
@@ -16,8 +16,7 @@ use Rattle.tokens.specs.Tokens.{Token}
 use Rattle.tokens.specs.Scanning.{front, lex}
 use Rattle.tokens.specs.Marking.{spot_of, at_spot, marks_of, marks_from, marks, found, parts, kinds_in}
 use Rattle.tokens.proofs.Laws.MarkingLaws.{marks_tell, spot_inside, marks_taken, marks_stray}
-use Rattle.tokens.specs.declared.Spot.{Spot}
-use Rattle.tokens.specs.declared.Spot.TheVariants.{Marked, Stray}
+use Rattle.tokens.specs.Spot.{Spot}
 use Rattle.text_shape.specs.Shape.{Shape, Shape.shape, sample, move, derived}
 use Rattle.text_shape.specs.RoleMarks.{role_codes, placed}
 use Rattle.derive.specs.Held.{held, Kept}
@@ -44,10 +43,10 @@ module _ {x : List ℕ} {i : ℕ} (r : MarkedTo x i) where
   unfolding marks_from
   marked_end h = let e = drop_of_length-le x {i = i} h in let w : i + length (marks []) ≡ length (marks x) = rw e at r.whole in omega (arith, w)
 
-  pub marked_stray : Stray ≡ spot_of (front (drop i x)) → i ≡ length (marks x)
+  pub marked_stray : None ≡ spot_of (front (drop i x)) → i ≡ length (marks x)
   marked_stray e = let w : i + 0 ≡ length (marks x) = rw (marks_stray (drop i x) e) at r.whole in omega (arith, w)
 
-  module _ {k n : ℕ} (e : Marked k n ≡ spot_of (front (drop i x))) where
+  module _ {k n : ℕ} (e : Some (k, n) ≡ spot_of (front (drop i x))) where
     pub marked_inside : i + (n + 1) ≤ length x
     marked_inside = let h = spot_inside (drop i x) e in omega (arith, length-drop i x)
 
@@ -64,8 +63,8 @@ marks_within k [] = omega arith
 marks_within k (b ∷ s) = go (at_spot k (b ∷ s)) (λ n. marks_within n s)
   where
     go : (p : Spot) → ((n : ℕ) → length (marks_from n s) ≤ length s) → length (marks_of p (λ n. marks_from n s)) ≤ suc (length s)
-    go (Marked q n) rec = let h = rec n in omega arith
-    go Stray rec = omega arith
+    go (Some (q, n)) rec = let h = rec n in omega arith
+    go None rec = omega arith
 
 -- Where no derivation goes on --------------------------------------------------------------------------
 

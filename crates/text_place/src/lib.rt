@@ -13,22 +13,19 @@ ghost use Rattle.uses.specs.Stopping.{stops};
 ghost use Rattle.text_place.specs.Place.{stuck_from, place};
 ghost use Rattle.text_shape.specs.CodeNames.{first_defs_code};
 
-use derive::Mark;
 use read_text::MAX_TEXT;
 use text_shape::state;
-use tokens::Spot;
-use uses::{Numbered, layout};
+use tokens::kind;
+use uses::layout;
 
 // The first place at which neither a token nor a gap begins; the text's end where there is none.
 fn unmarked(text: &[u8]) -> usize
     ensures { result ≡ length (marks text.now) }
 {
     let mut i = 0;
-    while i < text.len() {
-        match lexer::token(text, i) {
-            Spot::Marked(_, n) => i += n + 1,
-            Spot::Stray => return i,
-        }
+    // A token says how far the next one is.
+    while let Some((_, n)) = lexer::token(&text[i..]) {
+        i += n + 1;
     }
     i
 }
@@ -38,23 +35,16 @@ fn stuck(kinds: &[u8], stack: &mut [u8]) -> usize
     requires { length kinds.now ≤ length stack.old }
     ensures { result ≡ stuck_from (shape first_defs_code []) kinds.now }
 {
-    let mut m = Mark {
-        state: state::START,
-        height: 0,
-    };
-    let mut i = 0;
-    while i < kinds.len() {
-        let k = kinds[i];
-        if k != 0 {
-            m = derive::step(stack, m, k);
-            let q = m.state;
-            if q == state::DEAD {
+    let mut m = derive::START;
+    for (i, k) in kinds.iter().enumerate() {
+        if *k != kind::NONE {
+            m = derive::step(stack, m, *k);
+            if m.state == state::DEAD {
                 return i;
             }
         }
-        i += 1;
     }
-    i
+    kinds.len()
 }
 
 // Behind a derivation, by the roles that it gives the tokens: where the pass over names stops; the end where it does not.
@@ -66,8 +56,8 @@ fn unnamed(text: &[u8], roles: &[u8], stack: &mut [u8]) -> usize
     let mut numbers = [0u8; MAX_TEXT];
     let mut tables = [0usize; layout::TABLE_SIZE];
     match uses::numbers(text, roles, &mut tables, stack, &mut numbers) {
-        Numbered::Count(_) => roles.len(),
-        Numbered::Nothing(p) => p,
+        Ok(_) => roles.len(),
+        Err(stop) => stop.at,
     }
 }
 

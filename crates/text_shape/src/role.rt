@@ -1,4 +1,4 @@
-// The bytes of roles by name (02 §1): what `specs/RoleNames.antt` names.
+// The bytes of roles by name (02 §1): what `specs/RoleNames.antt` names. Bytes and no enum: a role stands in the lent byte where the token's kind stood.
 ghost use Rattle.std.specs.Prelude.{◌≡◌};
 ghost use Rattle.text_shape.specs.Roles.{all_roles};
 

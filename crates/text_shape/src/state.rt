@@ -1,4 +1,5 @@
-// The codes of states that the code names (`specs/CodeNames.antt`), and how many codes there are.
+// The codes of states that the code names (`specs/CodeNames.antt`), and how many codes there are. Bytes and no enum: the lent stack holds what is open as bytes,
+// and the tables of `derive` are indexed by a code.
 ghost use Rattle.std.specs.Prelude.{◌≡◌, [], ◌∷◌};
 ghost use Rattle.text_shape.specs.CodeNames.{dead_code, first_defs_code, behind_name_code, behind_id_code, behind_execution_code};
 ghost use Rattle.text_shape.specs.CodeNames.{behind_item_code, codes};

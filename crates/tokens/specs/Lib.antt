@@ -6,6 +6,7 @@ pub mod Kinds
 pub mod Lexing
 pub mod Straying
 pub mod Scanning
+pub mod Spot
 pub mod Marking
 pub mod Unfold
 pub mod Rows

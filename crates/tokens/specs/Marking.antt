@@ -1,31 +1,30 @@
 -- What stands in each place of a text: the kind of the token that begins there, 0 where none does; and whether the text parts into tokens.
-use Rattle.std.specs.Prelude.{ℕ, zero, suc, ◌≡◌, Bool, true, false, ◌&&◌, ◌||◌, List, [], ◌∷◌, eqb}
+use Rattle.std.specs.Prelude.{ℕ, zero, suc, ◌≡◌, Bool, true, false, ◌&&◌, ◌||◌, List, [], ◌∷◌, eqb, Option as Maybe, Some, None, option_map}
 use Rattle.std.proofs.Math.Option.{Option, none, some}
 use Rattle.tokens.specs.Tokens.{Token, digit, name_byte}
 use Rattle.tokens.specs.Scanning.{Front, Front.token, Front.gap, Front.nothing, front, lex}
 use Rattle.tokens.specs.Kinds.{kind}
-use Rattle.tokens.specs.declared.Spot.{Spot}
-use Rattle.tokens.specs.declared.Spot.TheVariants.{Marked, Stray}
+use Rattle.tokens.specs.Spot.{Spot}
 use Rattle.tokens.specs.KindNames.{no_kind}
 use Rattle.tokens.specs.Bytes.{plus_byte, minus_byte}
 
 unfoldable pub spot_of : Front → Spot
-spot_of (token t n) = Marked (kind t) n
-spot_of (gap n) = Marked no_kind n
-spot_of nothing = Stray
+spot_of (token t n) = Some (kind t, n)
+spot_of (gap n) = Some (no_kind, n)
+spot_of nothing = None
 
 -- a byte is a token of kind k, whatever stands behind it
 abbrev pub Lone : ℕ → ℕ → Type 0
-Lone b k = (t : List ℕ) → Marked k 0 ≡ spot_of (front (b ∷ t))
+Lone b k = (t : List ℕ) → Some (k, 0) ≡ spot_of (front (b ∷ t))
 
 -- k bytes belong to what was taken before
 unfoldable pub at_spot : ℕ → List ℕ → Spot
 at_spot zero x = spot_of (front x)
-at_spot (suc k) x = Marked no_kind k
+at_spot (suc k) x = Some (no_kind, k)
 
 unfoldable pub marks_of : Spot → (ℕ → List ℕ) → List ℕ
-marks_of (Marked q n) rest = q ∷ rest n
-marks_of Stray rest = []
+marks_of (Some (q, n)) rest = q ∷ rest n
+marks_of None rest = []
 
 -- up to a place where nothing of a text stands
 unfoldable pub marks_from : ℕ → List ℕ → List ℕ
@@ -51,8 +50,8 @@ kinds_in (k ∷ ks) = elim (eqb k 0) [ true ↦ kinds_in ks | false ↦ k ∷ ki
 -- Bytes that are told by the one behind them ------------------------------------------------
 
 -- two bytes where d follows, else one of its own, if there is one
-unfoldable pub followed : ℕ → ℕ → ℕ → ℕ → Spot
-followed c d two one = elim (eqb c d) [ true ↦ Marked two 1 | false ↦ elim (eqb one 0) [ true ↦ Stray | false ↦ Marked one 0 ] ]
+unfoldable pub followed : ℕ → ℕ → ℕ → Maybe ℕ → Spot
+followed c d two one = elim (eqb c d) [ true ↦ Some (two, 1) | false ↦ option_map (λ k. (k, 0)) one ]
 
 -- what a run goes on with: a name's, or else that of a number
 abbrev pub run_byte : Bool → ℕ → Bool

@@ -1,4 +1,4 @@
-// The kinds of tokens by name (02 §1): what `specs/KindNames.antt` names.
+// The kinds of tokens by name (02 §1): what `specs/KindNames.antt` names. Bytes and no enum: one lent byte for each place of a text holds a kind, then a role.
 ghost use Rattle.std.specs.Prelude.{◌≡◌};
 ghost use Rattle.tokens.specs.Kinds.{all_kinds};
 

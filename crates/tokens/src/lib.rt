@@ -3,9 +3,5 @@
 
 pub mod kind;
 
-// What stands at a place: the kind of a token, or 0 for a gap, with the count of its bytes behind the first; or no part of a text.
-#[derive(Clone, Copy)]
-pub enum Spot {
-    Marked(u8, usize),
-    Stray,
-}
+// What stands at a place: the kind of a token, or 0 for a gap, with the count of its bytes after the first; `None` where no part of a text begins.
+pub type Spot = Option<(u8, usize)>;

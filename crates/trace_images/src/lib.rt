@@ -8,8 +8,9 @@ mod telling;
 
 ghost use Rattle.std.specs.Prelude.{◌≡◌, ◌*◌, length};
 ghost use Rattle.types.specs.Limits.{max_instances};
+ghost use Rattle.types.specs.Refusals.{numbered};
 ghost use Rattle.layout.specs.Layout.{head_size, row_size};
-ghost use Rattle.seating.specs.Seated.{Opening, Admitting, SeatsTable};
+ghost use Rattle.seating.specs.Seated.{Opening, SeatsTable};
 ghost use Rattle.trace.specs.TraceText.{trace_text};
 ghost use Rattle.trace.specs.TracePage.{traced_number, traced_turns, paged};
 ghost use Rattle.trace_images.specs.Pages.{traced, Begins};
@@ -17,8 +18,9 @@ ghost use Rattle.trace_images.specs.Pages.{traced, Begins};
 use crate::pages::{ended, refused};
 use crate::telling::{Start, play};
 use directory::rows::ROWS;
-use load::Load;
-use seating::{Opened, SeatRead};
+use seating::{Opened, Seat};
+use table_read::Parameters;
+use types::refusal::Refusal;
 
 // What is answered: the number and the turns of the run, how many bytes its trace's text has, and how many of them were written.
 #[derive(Clone, Copy)]
@@ -32,23 +34,21 @@ pub struct Traced {
 // The machine that a table image begins with (9 to 12), in memory that is given back before the run asks for its own.
 fn seated(
     at: usize,
-    counts: &[u8],
-    types: &[u8],
+    p: Parameters,
     table: &[u8],
     heads: &mut [u16],
     cells: &mut [u64],
-) -> SeatRead
-    requires admitting { Admitting counts.now types.now at }
+) -> Result<Seat, Refusal>
     requires heads_len { (length heads.old ≡ head_size * max_instances) × (length cells.old ≡ row_size * max_instances) }
-    ensures { SeatsTable at counts.now types.now table.now result heads.new cells.new }
+    ensures { SeatsTable at p.entry.counts.now p.entry.types.now table.now (numbered result) heads.new cells.new }
 {
     let mut rows = [0u8; types::TABLE_BLOCKS * blocks::PAYLOAD_SIZE];
-    seating::seat_table(at, counts, types, table, &mut rows, heads, cells)
+    seating::seat_table(at, p, table, &mut rows, heads, cells)
 }
 
 // After an accepted program: 9 to 12 and 14 in order, or a run that is told.
 fn begun(
-    o: Opened,
+    o: &Opened,
     s: &[u8],
     rows: &[u16],
     table: &[u8],
@@ -56,26 +56,20 @@ fn begun(
     from: usize,
     out: &mut [u8],
 ) -> Traced
-    requires { Opening o s.now rows.now }
-    ensures { Begins o s.now rows.now table.now turns.now from out.old result out.new }
+    requires { Opening o.now s.now rows.now }
+    ensures { Begins o.now s.now rows.now table.now turns.now from out.old result out.new }
 {
-    let p = o.loaded;
-    let counts = o.counts;
-    let types = o.types;
-    let k = p.structs as usize;
-    let end = types::MAX_PARAMS * k;
-    let cs = &counts[..k];
-    let ts = &types[..end];
+    let p = seating::parameters(o);
     let mut heads = [0u16; layout::HEADS];
     let mut cells = [0u64; layout::CELLS];
-    let taken = seated(p.at, cs, ts, table, &mut heads, &mut cells);
-    let SeatRead::Taken(seat) = taken else {
-        return refused(seating::refusal(taken), from, out);
+    let seat = match seated(o.loaded.at, p, table, &mut heads, &mut cells) {
+        Ok(seat) => seat,
+        Err(refusal) => return refused(u8::from(refusal), from, out),
     };
     if types::MAX_TURNS < turns.len() {
-        return refused(types::number::MANY_TURNS, from, out);
+        return refused(u8::from(Refusal::ManyTurns), from, out);
     }
-    let opened = o;
+    let opened = *o;
     let start = Start { opened, seat, from };
     let r = play(s, rows, start, &mut heads, &mut cells, turns, out);
     let last = r.coming;
@@ -91,18 +85,12 @@ pub fn trace(program: &[u8], table: &[u8], turns: &[u8], from: usize, out: &mut 
     ensures out_after { out.new ≡ paged from (trace_text program.now table.now turns.now) out.old }
 {
     let mut stream = [0u8; seating::SHORT];
-    let mut counts = [0u8; types::MAX_STRUCTS];
-    let mut types = [0u8; types::MAX_STRUCTS * types::MAX_PARAMS];
     let mut rows = [0u16; ROWS];
-    let r = seating::admit(program, &mut stream, &mut counts, &mut types, &mut rows);
-    let Load::Program(loaded) = r else {
-        return refused(load::refusal(r), from, out);
+    // 1 to 8
+    let o = match seating::open_program(program, &mut stream, &mut rows) {
+        Ok(o) => o,
+        Err(refusal) => return refused(u8::from(refusal), from, out),
     };
-    let n = loaded.length;
-    let o = Opened {
-        loaded,
-        counts,
-        types,
-    };
-    begun(o, &stream[..n], &rows, table, turns, from, out)
+    let n = o.loaded.length;
+    begun(&o, &stream[..n], &rows, table, turns, from, out)
 }

@@ -1,6 +1,6 @@
 // A page of a trace's text in a lent buffer (docs/FORMAT.md, 'Traces'): the bytes from a place on, as many as the buffer holds. Those before the page and
 // after it are counted and not stored.
-ghost use Rattle.std.specs.Prelude.{◌≡◌, List, ◌++◌, ℕ, ◌+◌, ◌-◌, ◌^◌, ◌<◌, ◌≤◌, min, length};
+ghost use Rattle.std.specs.Prelude.{◌≡◌, List, ◌++◌, ℕ, ◌+◌, ◌^◌, ◌<◌, ◌≤◌, min, length};
 ghost use Rattle.types.specs.Limits.{max_turns};
 ghost use Rattle.trace.specs.LineText.{end_text};
 ghost use Rattle.trace_lines.specs.Parts.{line_most};
@@ -25,23 +25,11 @@ pub(crate) fn blank(from: usize) -> Page
     Page { from, length: 0 }
 }
 
-// The difference of two numbers, 0 where the second is the greater.
-fn minus(a: usize, b: usize) -> usize
-    ensures { result ≡ a - b }
-{
-    if a < b {
-        return 0;
-    }
-    a - b
-}
-
+// The less of two numbers.
 fn least(a: usize, b: usize) -> usize
     ensures { result ≡ min a b }
 {
-    if a < b {
-        return a;
-    }
-    b
+    if a < b { a } else { b }
 }
 
 // A line more: what of it lies on the page is copied there.
@@ -50,8 +38,8 @@ pub(crate) fn put(g: Page, line: &[u8], out: &mut [u8]) -> Page
     ensures value { result ≡ longer g (length line.now) }
     ensures grows { Grows g line.now out.old out.new }
 {
-    let at = least(out.len(), minus(g.length, g.from));
-    let start = least(line.len(), minus(g.from, g.length));
+    let at = least(out.len(), g.length.saturating_sub(g.from));
+    let start = least(line.len(), g.from.saturating_sub(g.length));
     let end = start + least(line.len() - start, out.len() - at);
     block::put::copy(out, at, &line[start..end]);
     Page {
@@ -69,7 +57,7 @@ pub(crate) fn ended(g: Page, number: u8, taken: usize, out: &mut [u8]) -> Traced
     let mut line = [0u8; LINE];
     let n = text::lines::row(&mut line, 0, b"end", &[number as u64, taken as u64]);
     let p = put(g, &line[..n], out);
-    let count = least(out.len(), minus(p.length, p.from));
+    let count = least(out.len(), p.length.saturating_sub(p.from));
     Traced {
         number,
         turns: taken as u32,

@@ -77,7 +77,7 @@ fn told_at(s: Telling, turns: &[u8]) -> Telling
     }
     let taken = coming.taken;
     if turns.len() <= taken {
-        return resting(s, types::number::OUT_OF_TURNS);
+        return resting(s, types::refusal::Refusal::OutOfTurns as u8);
     }
     coming.byte = turns[taken];
     let page = s.page;

@@ -1,5 +1,5 @@
 -- The open Fixes of memory behind an act (01, 'Numbers from the state'): a command leaves them, and a move opens no more than there may be.
-use Rattle.std.specs.Prelude.{ℕ, suc, ◌+◌, ◌-◌, ◌%◌, ◌<◌, ◌≤◌, ◌≡◌, Bool, List, [], ltb, length}
+use Rattle.std.specs.Prelude.{ℕ, suc, ◌+◌, ◌-◌, ◌%◌, ◌<◌, ◌≤◌, ◌≡◌, Bool, List, [], ltb, length, Result, Ok, Err}
 use native.Mathlib.Omega.{arith}
 use Rattle.std.proofs.Math.Path.{refl, ap}
 use Rattle.std.proofs.Common.{◌∙◌, eqb-true}
@@ -7,8 +7,6 @@ use Rattle.std.proofs.Math.Bool.{true, false}
 use Rattle.std.proofs.Math.Dec.{eqb}
 use Rattle.std.proofs.Math.ListN.{get_or}
 use Rattle.types.specs.Limits.{max_instances, fix_levels}
-use Rattle.operators.specs.declared.Answered.{Answered}
-use Rattle.operators.specs.declared.Answered.TheVariants.{Value, Outside, Unfit}
 use Rattle.layout.specs.Layout.{struct_of, operand}
 use Rattle.layout.specs.declared.Numbers.{Numbers}
 use Rattle.layout.specs.State.{State, state_of, of_head}
@@ -18,6 +16,8 @@ use Rattle.memory.proofs.Laws.Acts.{turned_only}
 use Rattle.memory.specs.Move.{do_fix, do_round, do_start, move_by, move}
 use Rattle.layout.specs.Codes.{fix_code, round_code}
 use Rattle.scheduler.specs.Ready.{Movable}
+use Rattle.operators.specs.declared.OperatorError.{OperatorError}
+use Rattle.operators.specs.declared.OperatorError.TheVariants.{Outside, Unfit}
 
 record Same (z y : State) : Type 0 where
   fixes : y.machine.fixes ≡ z.machine.fixes
@@ -27,11 +27,11 @@ same_if true a b = a
 same_if false a b = b
 
 module _ (counts : List ℕ) (l : ℕ) (z : State) where
-  answered_same : (t : ℕ) (a : Answered) → Same z (answered counts l z t a)
+  answered_same : (t : ℕ) (a : Result ℕ OperatorError) → Same z (answered counts l z t a)
   unfolding answered
-  answered_same t (Value v) = record { fixes = refl }
-  answered_same t Outside = record { fixes = refl }
-  answered_same t Unfit = record { fixes = refl }
+  answered_same t (Ok v) = record { fixes = refl }
+  answered_same t (Err Outside) = record { fixes = refl }
+  answered_same t (Err Unfit) = record { fixes = refl }
 
   wr_same : (x : ℕ) → Same z (do_wr counts l z x)
   unfolding do_wr written_to written

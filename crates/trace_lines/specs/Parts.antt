@@ -1,6 +1,6 @@
 -- The parts of a trace's lines as memory holds them (docs/FORMAT.md, 'Traces'): the stack's cells, the stability entries, a parameter that is written,
 -- the position of a command, the step that a move starts; and how long each may be.
-use Rattle.std.specs.Prelude.{ℕ, zero, suc, ◌+◌, ◌-◌, ◌*◌, ◌/◌, ◌%◌, ◌<◌, ◌≤◌, ◌≡◌, true, false, List, [], ◌∷◌, ◌++◌, eqb, ltb, length, get_or}
+use Rattle.std.specs.Prelude.{ℕ, zero, suc, ◌+◌, ◌-◌, ◌*◌, ◌/◌, ◌%◌, ◌<◌, ◌≤◌, ◌≡◌, true, false, List, [], ◌∷◌, ◌++◌, eqb, ltb, length, get_or, Option, Some, None}
 use Rattle.types.specs.Limits.{max_structs, max_depth, fix_levels, first_local, step_names}
 use Rattle.types.specs.Types.{struct_code}
 use Rattle.layout.specs.Layout.{head, struct_of, height_of, next_of, end_of, row_size, variable, stacked, type_byte, operand}
@@ -56,15 +56,15 @@ entries_text n s = (32 ∷ 115 ∷ []) ++ bit_text n s
 
 -- What is written --------------------------------------------------------------
 
-abbrev pub no_write : Write
-no_write = record { some = false; label = 0; variable = 0; old = 0 }
+abbrev pub no_write : Option Write
+no_write = None
 
 -- `wr`, as a word has it
 abbrev pub wr_kind : ℕ
 wr_kind = 4
 
 -- by the command's word w and the cell t on top, among s structs
-unfoldable pub target_by : ℕ → List ℕ → ℕ → ℕ → Write
+unfoldable pub target_by : ℕ → List ℕ → ℕ → ℕ → Option Write
 target_by s cells w t =
     elim (eqb (w % 256) wr_kind) [
       | true ↦
@@ -72,7 +72,7 @@ target_by s cells w t =
             | true ↦
                 elim (ltb (operand t) s) [
                   | true ↦ no_write
-                  | false ↦ record { some = true; label = operand t; variable = operand w; old = get_or cells (variable (operand t) (operand w)) 0 }
+                  | false ↦ Some (record { label = operand t; variable = operand w; old = get_or cells (variable (operand t) (operand w)) 0 })
                 ]
             | false ↦ no_write
           ]
@@ -80,7 +80,7 @@ target_by s cells w t =
     ]
 
 -- by the next command of instance l
-unfoldable pub target : List ℕ → ℕ → List ℕ → List ℕ → ℕ → Write
+unfoldable pub target : List ℕ → ℕ → List ℕ → List ℕ → ℕ → Option Write
 target list s heads cells l =
     target_by s cells (get_or list (get_or heads (head l next_of) 0) 0) (get_or cells (stacked l (get_or heads (head l height_of) 0 - 1)) 0)
 
@@ -92,19 +92,17 @@ unfoldable pub values_text : ℕ → ℕ → List ℕ
 values_text c d = (32 ∷ []) ++ (worth c ++ ((32 ∷ []) ++ worth d))
 
 -- the parameter with its values before and now
-unfoldable pub write_text : List ℕ → Write → List ℕ
-write_text cells w = elim w.some [
-  | true ↦
-      place_text w.label w.variable ++ values_text w.old (get_or cells (variable w.label w.variable) 0)
-  | false ↦ []
-]
+unfoldable pub write_text : List ℕ → Option Write → List ℕ
+write_text cells None = []
+write_text cells (Some w) = place_text w.label w.variable ++ values_text w.old (get_or cells (variable w.label w.variable) 0)
 
 -- memory in which the next command of instance l finds what it needs
 abbrev pub Fitting : List ℕ → List ℕ → List ℕ → List ℕ → ℕ → Type 0
 Fitting list counts heads cells l = (n : Numbers) × Fit list counts l (state_of n heads cells)
 
-abbrev pub WriteFits : List ℕ → Write → Type 0
-WriteFits cells w = w.some ≡ true → variable w.label w.variable < length cells
+abbrev pub WriteFits : List ℕ → Option Write → Type 0
+WriteFits cells None = Unit {0}
+WriteFits cells (Some w) = variable w.label w.variable < length cells
 
 -- Places -----------------------------------------------------------------------
 
@@ -121,12 +119,12 @@ step_at n item = elim (ltb item fix_code) [ true ↦ item % step_names | false �
 -- Lines ------------------------------------------------------------------------
 
 -- from the stack on
-unfoldable pub back_text : List ℕ → List ℕ → ℕ → Write → ℕ → ℕ → List ℕ
+unfoldable pub back_text : List ℕ → List ℕ → ℕ → Option Write → ℕ → ℕ → List ℕ
 back_text heads cells l w fixes stable =
     cells_text heads cells l (get_or heads (head l height_of) 0)
     ++ ((32 ∷ 93 ∷ []) ++ (write_text cells w ++ (entries_text fixes stable ++ 10 ∷ [])))
 
-pub record BackFits (heads cells : List ℕ) (l : ℕ) (w : Write) (fixes : ℕ) : Type 0 where
+pub record BackFits (heads cells : List ℕ) (l : ℕ) (w : Option Write) (fixes : ℕ) : Type 0 where
   pub stack : StackFits heads cells l
   pub write : WriteFits cells w
   pub few : fixes ≤ fix_levels

@@ -2,7 +2,7 @@
 use Prim.Native.Nat.{ℕ, zero, suc, ◌+◌, ◌-◌, ◌*◌, ◌/◌, ◌%◌, ◌<◌, ◌≤◌}
 use native.Mathlib.Omega.{arith}
 use Rattle.std.proofs.Math.Numerals.{add-one}
-use Rattle.std.specs.Prelude.{◌≡◌, refl, Bool, eqb, ltb, length, get_or}
+use Rattle.std.specs.Prelude.{◌≡◌, refl, Bool, eqb, ltb, length, get_or, Option, Some, None}
 use Rattle.std.proofs.Common.{sym, ap, ◌∙◌, subst}
 use Rattle.std.proofs.Math.Bool.{true, false}
 use mathlib.Core.List.{List, [], ◌∷◌, ◌++◌, append_assoc, append-nil}
@@ -107,23 +107,23 @@ module _ (s : ℕ) (cells : List ℕ) (w t : ℕ) where
       target_null h = rw (target_by, eq-eqb (w % 256) wr_kind e, lt-ltb (operand w) first_local x, lt-ltb (operand t) s h)
 
       pub target_found : s ≤ operand t
-          → record { some = true; label = operand t; variable = operand w; old = get_or cells (variable (operand t) (operand w)) 0 } ≡ target_by s cells w t
+          → Some (record { label = operand t; variable = operand w; old = get_or cells (variable (operand t) (operand w)) 0 }) ≡ target_by s cells w t
       unfolding target_by
       target_found h = rw (target_by, eq-eqb (w % 256) wr_kind e, lt-ltb (operand w) first_local x, le-ltb (operand t) s h)
 
 -- of equal labels and variables
 pub same_target : (cells : List ℕ) (q x q' x' : ℕ) → q ≡ q' → x ≡ x'
-    → ◌≡◌ {A = Write} (record { some = true; label = q; variable = x; old = get_or cells (variable q x) 0 })
-    (record { some = true; label = q'; variable = x'; old = get_or cells (variable q' x') 0 })
+    → ◌≡◌ {A = Option Write} (Some (record { label = q; variable = x; old = get_or cells (variable q x) 0 }))
+    (Some (record { label = q'; variable = x'; old = get_or cells (variable q' x') 0 }))
 same_target cells q x q' x' e f = rw (e, f)
 
-module _ (cells : List ℕ) (w : Write) where
-  pub write_none : w.some ≡ false → write_text cells w ≡ []
+module _ (cells : List ℕ) (w : Option Write) where
+  pub write_none : w ≡ None → write_text cells w ≡ []
   unfolding write_text
   write_none e = rw (e, write_text)
 
-  pub write_some : w.some ≡ true
-      → write_text cells w ≡ place_text w.label w.variable ++ values_text w.old (get_or cells (variable w.label w.variable) 0)
+  pub write_some : {v : Write} → w ≡ Some v
+      → write_text cells w ≡ place_text v.label v.variable ++ values_text v.old (get_or cells (variable v.label v.variable) 0)
   unfolding write_text
   write_some e = rw (e, write_text)
 

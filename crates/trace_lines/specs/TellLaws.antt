@@ -1,7 +1,7 @@
 -- The bytes of a turn and of a move are the lines that `trace` defines (docs/FORMAT.md, 'Traces'), of every machine that memory is ready for.
 use Prim.Native.Nat.{ℕ, suc, ◌+◌, ◌*◌, ◌%◌, ◌<◌, ◌≤◌}
 use native.Mathlib.Omega.{arith}
-use Rattle.std.specs.Prelude.{◌≡◌, ◌⊎◌, Bool, true, false, List, [], ◌∷◌, ◌++◌, ltb, length, get_or, take}
+use Rattle.std.specs.Prelude.{◌≡◌, ◌⊎◌, Bool, true, false, List, [], ◌∷◌, ◌++◌, ltb, length, get_or, take, Option as Maybe}
 use Rattle.std.proofs.Math.Path.{refl, sym, ap}
 use Rattle.std.proofs.Common.{◌∙◌, subst, inl, inr, append-nil, take_at}
 use Rattle.std.proofs.Math.Option.{some}
@@ -167,7 +167,7 @@ module _ {p : Program} {counts list items spans : List ℕ} {m : Machine} {z : S
           (turn_made (a ∙ ap (λ (x : ℕ). act list counts x z) (sym same)) n t named h)
 
       -- the parts of its line stand in the buffer
-      pub picked_told : n < step_names → y.machine.number ≡ 0 → {w : Write} → w ≡ target list (length counts) z.heads z.cells l
+      pub picked_told : n < step_names → y.machine.number ≡ 0 → {w : Maybe Write} → w ≡ target list (length counts) z.heads z.cells l
           → {at : ℕ} → at ≡ position_of spans z.heads l n
           → {out out1 out2 : List ℕ} {i j : ℕ}
           → Placed (front_text t e l (of_head z l struct_of) n at (text (next_word list z l))) out 0 i out1

@@ -1,5 +1,5 @@
 -- What memory tells of a command's write is what the machines before it and behind it have (docs/FORMAT.md, 'Traces').
-use Rattle.std.specs.Prelude.{ℕ, suc, ◌+◌, ◌-◌, ◌*◌, ◌%◌, ◌<◌, ◌≤◌, Bool, true, false, eqb, ltb}
+use Rattle.std.specs.Prelude.{ℕ, suc, ◌+◌, ◌-◌, ◌*◌, ◌%◌, ◌<◌, ◌≤◌, Bool, true, false, eqb, ltb, Option as Maybe, Some}
 use native.Mathlib.Omega.{arith}
 use Rattle.std.proofs.Math.Path.{◌≡◌, refl, ap, subst}
 use Rattle.std.proofs.Common.{sym, ◌∙◌}
@@ -104,7 +104,7 @@ some_below (x ∷ xs) (suc q) h = some_below xs q (omega arith)
 module _ {p : Program} {counts list items spans : List ℕ} {m m' : Machine} {z y : State} (r : Ready p counts list items spans m z)
     (r' : Ready p counts list items spans m' y) (l : ℕ) (i : Instance) (at : get_elem? m.instances l ≡ some i) (n : Note) (c : List Note)
     (e : i.code ≡ n ∷ c) (a : y ≡ act list counts l z) where
-  abbrev to_write : Write
+  abbrev to_write : Maybe Write
   to_write = target list (length counts) z.heads z.cells l
 
   abbrev Tells : Note → Type 0
@@ -121,7 +121,7 @@ module _ {p : Program} {counts list items spans : List ℕ} {m m' : Machine} {z 
   -- nothing is written
   nothing : no_write ≡ to_write → {t : List ℕ} → t ≡ [] → (write_text y.cells to_write ≡ t) × (WriteFits y.cells to_write)
   unfolding write_text
-  nothing q g = rw (sym q) (sym g, λ f. let w : ◌≡◌ {A = ℕ} 0 1 = cc in absurd (omega arith))
+  nothing q g = rw (sym q) (sym g, tt)
 
   past : next_word list z l % 256 ≡ wr_kind → first_local ≤ operand (next_word list z l) → no_write ≡ to_write
   unfolding target
@@ -178,16 +178,15 @@ module _ {p : Program} {counts list items spans : List ℕ} {m m' : Machine} {z 
     unfolding target write_text place_text values_text param_text change_text
     found h =
         let u : length counts ≡ structs p = counts_length r.prepared.bounded in
-        let w : record {
-          some = true;
+        let w : Some (record {
           label = operand (top counts l z);
           variable = operand word;
           old = of_cell z (variable (operand
               (top counts l z)) (operand word));
-        }
+        })
         ≡ to_write =
         target_found (length counts) z.cells word (top counts l z) kind (rw variable_is low) (rw (target_is, u) h) in
-        let w' : record { some = true; label = q; variable = x; old = of_cell z (variable q x) } ≡ to_write = rw (target_is, variable_is) at w in
+        let w' : Some (record { label = q; variable = x; old = of_cell z (variable q x) }) ≡ to_write = rw (target_is, variable_is) at w in
         let (j', at', f') = behind in
         let b₁ : x < length (params_of p j.struct) = rw f b in
         let b₂ : x < length (params_of p j'.struct) = rw f' b in
@@ -202,7 +201,7 @@ module _ {p : Program} {counts list items spans : List ℕ} {m m' : Machine} {z 
         let c₃ = r'.stands.cells_long in
         let c₄ = low in (
           rw (sym w', s₁, s₂) (sym (flat_is ∙ rw (le-ltb q (structs p) h, at_q, at', param_text, e₁, e₂))),
-          rw (sym w') (λ o. omega arith),
+          rw (sym w') (omega arith),
         )
 
     wrote : Tells (n_wr k x)

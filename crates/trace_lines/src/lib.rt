@@ -55,23 +55,6 @@ pub struct Told {
     pub length: usize,
 }
 
-// The difference of two numbers, 0 where the second is the greater.
-fn minus(a: usize, b: usize) -> usize
-    ensures { result ≡ a - b }
-{
-    if a < b {
-        return 0;
-    }
-    a - b
-}
-
-// A number of two bytes.
-fn wide(n: u16) -> usize
-    ensures { result ≡ n }
-{
-    n as usize
-}
-
 // The position of instance l's next command among those of the step.
 fn position(spans: &[u16], heads: &[u16], l: usize, step: usize) -> usize
     requires spans_size_in_bounds { (spans_size ≤ length spans.now) × (head l end_of < length heads.now) }
@@ -81,14 +64,9 @@ fn position(spans: &[u16], heads: &[u16], l: usize, step: usize) -> usize
     let at = layout::HEAD_SIZE * l;
     let k = heads[at + layout::STRUCT] as usize;
     let s = 2 * (types::STEP_NAMES * k + step);
-    let from = wide(spans[s]);
-    let to = wide(spans[s + 1]);
-    let size = minus(to, from);
-    let left = minus(
-        wide(heads[at + layout::END]),
-        wide(heads[at + layout::NEXT]),
-    );
-    minus(size, left)
+    let size = spans[s + 1].saturating_sub(spans[s]);
+    let left = heads[at + layout::END].saturating_sub(heads[at + layout::NEXT]);
+    usize::from(size.saturating_sub(left))
 }
 
 // Three numbers, a space behind each.
@@ -120,7 +98,7 @@ fn back(
     out: &mut [u8],
     k: usize,
     l: usize,
-    w: Write,
+    w: Option<Write>,
     numbers: Numbers,
     heads: &[u16],
     cells: &[u64],
@@ -196,9 +174,10 @@ fn step_at(item: usize, step: usize) -> usize
     ensures { result ≡ step_at step item }
 {
     if item < codes::FIX {
-        return item % types::STEP_NAMES;
+        item % types::STEP_NAMES
+    } else {
+        step
     }
-    step
 }
 
 // The line of a move, with the entries behind it.

@@ -53,11 +53,9 @@ pub(crate) fn stack(out: &mut [u8], k: usize, heads: &[u16], cells: &[u64], l: u
 {
     let high = heads[layout::HEAD_SIZE * l + layout::HEIGHT] as usize;
     let bottom = layout::ROW_SIZE * l + types::VARIABLES;
-    let mut h = 0;
     let mut at = k;
-    while h < high {
+    for h in 0..high {
         at = cell(out, at, heads, cells[bottom + h]);
-        h += 1;
     }
     at
 }
@@ -70,11 +68,9 @@ pub(crate) fn entries(out: &mut [u8], k: usize, n: usize, s: usize) -> usize
 {
     let mut at = text::put(out, k, b" s");
     let mut left = s;
-    let mut i = 0;
-    while i < n {
-        at = text::byte(out, at, 48 + (left % 2) as u8);
+    for i in 0..n {
+        at = text::byte(out, at, b'0' + (left % 2) as u8);
         left = left / 2;
-        i += 1;
     }
     at
 }

@@ -2,6 +2,7 @@ pub mod Reflects
 pub mod Decides
 pub mod Limits
 pub mod Numbers
+pub mod Refusals
 pub mod Types
 pub mod TypeBytes
 pub mod Values

@@ -2,6 +2,7 @@
 #![tactic(auto)]
 
 pub mod number;
+pub mod refusal;
 
 ghost use Rattle.std.specs.Prelude.{◌≡◌};
 ghost use Rattle.types.specs.Types.{type_of};
@@ -69,13 +70,7 @@ pub const STRUCT: u8 = 16;
 pub fn is_type(structs: u8, code: u8) -> bool
     ensures { result ≡ is_type structs code }
 {
-    if code <= BOOL {
-        return true;
-    }
-    if code < STRUCT {
-        return false;
-    }
-    code - STRUCT < structs
+    code <= BOOL || (STRUCT <= code && code - STRUCT < structs)
 }
 
 // Whether the values of a type are labels.
@@ -89,17 +84,14 @@ pub fn is_reference(code: u8) -> bool
 pub fn struct_of(code: u8) -> u8
     ensures { result ≡ struct_of (type_of code) }
 {
-    if code < STRUCT {
-        return 0;
-    }
-    code - STRUCT
+    code.saturating_sub(STRUCT)
 }
 
 // The four bytes of a type's default value, as one number.
 pub fn default_word(code: u8) -> u32
     ensures { result ≡ word (default (type_of code)) }
 {
-    struct_of(code) as u32
+    u32::from(struct_of(code))
 }
 
 // Every limit, in order, so that a contract can tie each constant to its definition; every byte of a type, likewise.

@@ -1,7 +1,7 @@
 -- How the pass over uses stands in lent memory (02 §1). Declarations are one table: places of structs, offsets of rows, places of parameters, bytes of their
 -- types, places of step names, how many structs and names there are. A step's locals are another: those declared, those alive, their numbers, the bytes of
 -- their types, each region filled from its end. Arguments due stand at the front of a stack, how many locals were alive before each open if at its end.
-use Rattle.std.specs.Prelude.{ℕ, ◌+◌, ◌≤◌, ◌<◌, ◌≡◌, List, ◌∷◌, length, get_or}
+use Rattle.std.specs.Prelude.{ℕ, ◌+◌, ◌≤◌, ◌<◌, ◌≡◌, List, ◌∷◌, length, get_or, Some, None, Ok, Err, Result}
 use Rattle.std.proofs.Math.Option.{Option, none, some}
 use Rattle.meaning.specs.Meant.{then}
 use Rattle.derive.specs.Held.{held}
@@ -11,13 +11,11 @@ use Rattle.resolve.specs.Using.{Book, Use}
 use Rattle.resolve.specs.Resolved.{cuts}
 use Rattle.uses.specs.Laws.PartLaws.{up_to}
 use Rattle.uses.specs.declared.Scope.{Scope}
-use Rattle.uses.specs.declared.Passed.{Passed}
-use Rattle.uses.specs.declared.Passed.TheVariants.{Stop, On, Left}
-use Rattle.uses.specs.declared.Numbered.{Numbered}
 use Rattle.types.specs.Limits.{max_structs, max_params, step_names, max_locals}
 use Rattle.uses.specs.Layout.{rows_room, offsets_place, pars_place, types_place, names_place, struct_count_place, name_count_place, table_size}
 use Rattle.uses.specs.Layout.{declared_end, living_end, numbers_end, bytes_end}
-use Rattle.uses.specs.declared.Numbered.TheVariants as numbered
+use Rattle.uses.specs.Passed.{Passed}
+use Rattle.uses.specs.declared.NoProgram.{NoProgram}
 
 abbrev pub structs_of_table : List ℕ → ℕ
 structs_of_table t = get_or t struct_count_place 0
@@ -87,28 +85,28 @@ pub record Roomy (t l : List ℕ) (c : Scope) : Type 0 where
 -- what a function answers
 unfoldable pub passed_in : List ℕ → List ℕ → List ℕ → Passed → List ℕ → Option Use
 unfolding use_in
-passed_in x l k Stop o = none
-passed_in x l k (On c) o = some (use_in x l k c o)
-passed_in x l k (Left c n) o = some (use_in x l k c (n ∷ o))
+passed_in x l k None o = none
+passed_in x l k (Some (c, None)) o = some (use_in x l k c o)
+passed_in x l k (Some (c, Some n)) o = some (use_in x l k c (n ∷ o))
 
 -- there is room for it, and one more stands on the stack at most
 abbrev pub Grown : Scope → Scope → Type 0
 Grown c d = d.dues + d.bodies ≤ c.dues + c.bodies + 1
 
 unfoldable pub Next : List ℕ → List ℕ → Scope → Passed → Type 0
-Next t l c Stop = Unit {0}
-Next t l c (On d) = Roomy t l d × Grown c d
-Next t l c (Left d n) = Roomy t l d × Grown c d
+Next t l c None = Unit {0}
+Next t l c (Some (d, None)) = Roomy t l d × Grown c d
+Next t l c (Some (d, Some n)) = Roomy t l d × Grown c d
 
 -- the numbers that stand in memory, the last one first
-unfoldable pub numbered_in : List ℕ → Numbered → Option (List ℕ)
+unfoldable pub numbered_in : List ℕ → Result ℕ NoProgram → Option (List ℕ)
 unfolding held
-numbered_in m (numbered.Count n) = some (held m n)
-numbered_in m (numbered.Nothing p) = none
+numbered_in m (Ok n) = some (held m n)
+numbered_in m (Err p) = none
 
-unfoldable pub Counted : List ℕ → Numbered → Type 0 → Type 0
-Counted m (numbered.Count n) A = (n ≤ length m) × A
-Counted m (numbered.Nothing p) A = Unit {0}
+unfoldable pub Counted : List ℕ → Result ℕ NoProgram → Type 0 → Type 0
+Counted m (Ok n) A = (n ≤ length m) × A
+Counted m (Err p) A = Unit {0}
 
 unfoldable pub used_out : Option Use → Option (List ℕ)
 unfolding then

@@ -1,4 +1,5 @@
 pub mod Layout
+pub mod Passed
 pub mod Lent
 pub mod Stopping
 pub mod Declaring

@@ -1,13 +1,12 @@
 -- The place at which the pass over names stops (02 §1, 17; 02 asks for no place): how many places are passed before the first token at which nothing is used.
-use Rattle.std.specs.Prelude.{ℕ, suc, Bool, true, false, eqb}
+use Rattle.std.specs.Prelude.{ℕ, suc, Bool, true, false, eqb, Ok, Err, Result}
 use mathlib.Core.List.{List, [], ◌∷◌}
 use Rattle.std.proofs.Math.Option.{Option, none, some}
 use Rattle.resolve.specs.WellDeclared.{tables_ok}
 use Rattle.resolve.specs.Using.{Book, Use, chosen, use_start}
 use Rattle.resolve.specs.UsingAt.{use_at}
 use Rattle.resolve.specs.Resolved.{book_at}
-use Rattle.uses.specs.declared.Numbered.{Numbered}
-use Rattle.uses.specs.declared.Numbered.TheVariants.{Count, Nothing}
+use Rattle.uses.specs.declared.NoProgram.{NoProgram}
 
 unfoldable pub counts_on : Option Use → (Use → ℕ) → ℕ
 counts_on none f = 0
@@ -31,6 +30,6 @@ unfolding of_tables tables_ok stops_at book_at
 stops text roles = of_tables (tables_ok text roles) (stops_at (book_at text roles) text roles use_start)
 
 -- of what a function answers, with the end
-unfoldable pub stop_in : Numbered → ℕ → ℕ
-stop_in (Count n) l = l
-stop_in (Nothing p) l = p
+unfoldable pub stop_in : Result ℕ NoProgram → ℕ → ℕ
+stop_in (Ok n) l = l
+stop_in (Err p) l = p.at

@@ -9,14 +9,21 @@ use lexer::bytes;
 use resolve::tables;
 use text_shape::role;
 
+// A text, the roles of its tokens in their places, and the places of all its declarations.
+#[derive(Clone, Copy)]
+pub(crate) struct Declarations<'a> {
+    pub(crate) text: &'a [u8],
+    pub(crate) roles: &'a [u8],
+    pub(crate) places: &'a [usize],
+    pub(crate) ghost gathered: { places.now ≡ declared_at roles.now },
+}
+
 // Whether a role is that of a struct, a parameter, a step or the type of a parameter.
 fn declares(role: u8) -> bool
     ensures { result ≡ declares role }
 {
-    if bytes::between(role::NEW_STRUCT, role::NEW_STEP, role) {
-        return true;
-    }
-    bytes::between(role::FIRST_TYPE, role::LAST_PAR_TYPE, role)
+    bytes::between(role::NEW_STRUCT, role::NEW_STEP, role)
+        || bytes::between(role::FIRST_TYPE, role::LAST_PAR_TYPE, role)
 }
 
 // The places of all declarations into a table, as many as it has; and how many there are.
@@ -25,51 +32,39 @@ pub(crate) fn all(roles: &[u8], table: &mut [usize]) -> usize
     ensures table_after { table.new ≡ sets table.old 0 (declared_at roles.now) }
 {
     let mut n = 0;
-    let mut i = 0;
-    while i < roles.len() {
-        n = tables::add(table, n, i, declares(roles[i]));
-        i += 1;
+    for (i, role) in roles.iter().enumerate() {
+        n = tables::add(table, n, i, declares(*role));
     }
     n
 }
 
-// The places of the roles from low to high, of one declaration or of types, into a table, as many as it has; and how many there are.
-pub(crate) fn gather(
-    roles: &[u8],
-    declared: &[usize],
-    low: u8,
-    high: u8,
-    table: &mut [usize],
-) -> usize
-    requires { (declared.now ≡ declared_at roles.now) × AllDeclare low high }
-    ensures value { result ≡ length (places low high roles.now) }
-    ensures table_after { table.new ≡ sets table.old 0 (places low high roles.now) }
-{
-    let mut n = 0;
-    let mut i = 0;
-    while i < declared.len() {
-        let at = declared[i];
-        let is = bytes::between(low, high, bytes::byte(roles, at));
-        n = tables::add(table, n, at, is);
-        i += 1;
+impl Declarations<'_> {
+    // The places of the roles from low to high, of one declaration or of types, into a table, as many as it has; and how many there are.
+    pub(crate) fn gather(self, low: u8, high: u8, table: &mut [usize]) -> usize
+        requires { AllDeclare low high }
+        ensures value { result ≡ length (places low high self.entry.roles.now) }
+        ensures table_after { table.new ≡ sets table.old 0 (places low high self.entry.roles.now) }
+    {
+        let mut n = 0;
+        for at in self.places {
+            let is = bytes::between(low, high, bytes::byte(self.roles, *at));
+            n = tables::add(table, n, *at, is);
+        }
+        n
     }
-    n
-}
 
-// How many of a role stand before each struct, and in all, into a table, as many as it has.
-pub(crate) fn rows(roles: &[u8], declared: &[usize], role: u8, table: &mut [usize])
-    requires { (declared.now ≡ declared_at roles.now) × (new_struct_role ≤ role) × (role ≤ new_step_role) }
-    ensures { table.new ≡ sets table.old 0 (offsets role roles.now) }
-{
-    let mut n = 0;
-    let mut k = 0;
-    let mut i = 0;
-    while i < declared.len() {
-        let at = declared[i];
-        let b = bytes::byte(roles, at);
-        k = tables::add(table, k, n, b == role::NEW_STRUCT);
-        n = tables::counted(n, b == role);
-        i += 1;
+    // How many of a role stand before each struct, and in all, into a table, as many as it has.
+    pub(crate) fn rows(self, role: u8, table: &mut [usize])
+        requires { (new_struct_role ≤ role) × (role ≤ new_step_role) }
+        ensures { table.new ≡ sets table.old 0 (offsets role self.entry.roles.now) }
+    {
+        let mut n = 0;
+        let mut k = 0;
+        for at in self.places {
+            let b = bytes::byte(self.roles, *at);
+            k = tables::add(table, k, n, b == role::NEW_STRUCT);
+            n = tables::counted(n, b == role);
+        }
+        tables::put(table, k, n);
     }
-    tables::put(table, k, n);
 }

@@ -10,7 +10,7 @@ ghost use Rattle.text_shape.specs.RoleNames.{first_part_role};
 ghost use Rattle.types.specs.Limits.{max_locals};
 
 use crate::{Passed, Scope};
-use resolve::{Word, literals};
+use resolve::literals;
 use text_shape::role;
 use tokens::kind;
 
@@ -18,15 +18,7 @@ use tokens::kind;
 fn dued(c: Scope, n: usize) -> Scope
     ensures { result ≡ dued c n }
 {
-    Scope {
-        begun: c.begun,
-        met: c.met,
-        living: c.living,
-        fresh: c.fresh,
-        typ: c.typ,
-        dues: n,
-        bodies: c.bodies,
-    }
+    Scope { dues: n, ..c }
 }
 
 // With other locals and open ifs, all of them alive.
@@ -34,13 +26,11 @@ fn lived(c: Scope, met: usize, n: usize, bodies: usize) -> Scope
     ensures { result ≡ lived c met n bodies }
 {
     Scope {
-        begun: c.begun,
-        met: met,
+        met,
         living: n,
         fresh: 0,
-        typ: c.typ,
-        dues: c.dues,
-        bodies: bodies,
+        bodies,
+        ..c
     }
 }
 
@@ -51,16 +41,11 @@ fn close(stack: &[u8], n: u8, c: Scope) -> Passed
         ≡ use_closes n (use_in x l stack.now c o) (use_in x l stack.now c o).dues }
     ensures by_index_2 { (t l : List ℕ) → Roomy t l c → Next t l c result }
 {
-    let d = c.dues;
-    if d == 0 {
-        return Passed::Stop;
+    let h = c.dues.checked_sub(1)?;
+    if stack[h] != n {
+        return None;
     }
-    let h = d - 1;
-    let m = stack[h];
-    if m != n {
-        return Passed::Stop;
-    }
-    Passed::On(dued(c, h))
+    Some((dued(c, h), None))
 }
 
 // An argument is at its end, and another follows.
@@ -71,17 +56,10 @@ fn go_on(stack: &mut [u8], c: Scope) -> Passed
     ensures by_index_2 { (t l : List ℕ) → Roomy t l c → Next t l c result }
     ensures stack_len_unchanged { length stack.new ≡ length stack.old }
 {
-    let d = c.dues;
-    if d == 0 {
-        return Passed::Stop;
-    }
-    let h = d - 1;
-    let m = stack[h];
-    if m == 0 {
-        return Passed::Stop;
-    }
-    stack[h] = m - 1;
-    Passed::On(c)
+    let h = c.dues.checked_sub(1)?;
+    let m = stack[h].checked_sub(1)?;
+    stack[h] = m;
+    Some((c, None))
 }
 
 // An if is opened.
@@ -95,7 +73,7 @@ fn open_if(stack: &mut [u8], c: Scope) -> Passed
     let b = c.bodies;
     let h = stack.len() - (b + 1);
     stack[h] = n as u8;
-    Passed::On(lived(c, c.met, n, b + 1))
+    Some((lived(c, c.met, n, b + 1), None))
 }
 
 // It is closed, and its locals are dead.
@@ -105,17 +83,9 @@ fn close_if(stack: &[u8], c: Scope) -> Passed
         ≡ use_dies (use_in x l stack.now c o) (use_in x l stack.now c o).heights }
     ensures by_index { (t l : List ℕ) → Roomy t l c → Next t l c result }
 {
-    let b = c.bodies;
-    if b == 0 {
-        return Passed::Stop;
-    }
-    let h = stack.len() - b;
-    let n = stack[h] as usize;
-    let living = c.living;
-    if n < living {
-        return Passed::On(lived(c, c.met, n, b - 1));
-    }
-    Passed::On(lived(c, c.met, living, b - 1))
+    let left = c.bodies.checked_sub(1)?;
+    let n = usize::from(stack[stack.len() - c.bodies]);
+    Some((lived(c, c.met, c.living.min(n), left), None))
 }
 
 // Brackets, braces and commas.
@@ -129,22 +99,20 @@ pub(crate) fn part_role(stack: &mut [u8], role: u8, c: Scope) -> Passed
     match role {
         role::ARGS_CLOSE => close(stack, 1, c),
         role::NO_ARGS_CLOSE => close(stack, 0, c),
-        role::BODY_CLOSE => Passed::On(lived(c, 0, 0, 0)),
+        role::BODY_CLOSE => Some((lived(c, 0, 0, 0), None)),
         role::THEN_OPEN => open_if(stack, c),
         role::THEN_CLOSE => close_if(stack, c),
         role::ARG_COMMA => go_on(stack, c),
-        _ => Passed::On(c),
+        _ => Some((c, None)),
     }
 }
 
 // A literal is of its type, or not.
-fn of_type(w: Word, c: Scope) -> Passed
+fn of_type(w: Option<u32>, c: Scope) -> Passed
     ensures { result ≡ word_passed w c }
 {
-    match w {
-        Word::Of(_) => Passed::On(c),
-        Word::Outside => Passed::Stop,
-    }
+    w?;
+    Some((c, None))
 }
 
 // A token whose kind says it all: behind a semicolon a local is alive.
@@ -155,9 +123,9 @@ pub(crate) fn kind_role(text: &[u8], at: usize, kind: u8, c: Scope) -> Passed
     ensures by_index_2 { (t l : List ℕ) → Roomy t l c → Next t l c result }
 {
     match kind {
-        kind::SEMICOLON => Passed::On(lived(c, c.met, c.living, c.bodies)),
+        kind::SEMICOLON => Some((lived(c, c.met, c.living, c.bodies), None)),
         kind::INT => of_type(literals::int_word(text, at), c),
         kind::NAT => of_type(literals::nat_word(text, at), c),
-        _ => Passed::On(c),
+        _ => Some((c, None)),
     }
 }

@@ -2,12 +2,13 @@
 ghost use Rattle.std.specs.Prelude.{◌≡◌, ℕ, ◌+◌, ◌≤◌, ◌<◌, true, List, length, drop};
 ghost use Rattle.resolve.specs.Using.{use_start};
 ghost use Rattle.resolve.specs.UsingAt.{use_at, uses_at};
-ghost use Rattle.uses.specs.Lent.{book_in, Booked, use_in, Roomy, passed_in, Next, numbered_in, used_out, Counted};
+ghost use Rattle.uses.specs.Lent.{book_in, use_in, Roomy, passed_in, Next, numbered_in, used_out, Counted};
 ghost use Rattle.uses.specs.Seeing.{Quiet};
 ghost use Rattle.uses.specs.Stopping.{stops_at, stop_in};
 ghost use Rattle.uses.specs.Layout.{bytes_end};
 
-use crate::{Numbered, Passed, Scope, parts, passing};
+use crate::book::Book;
+use crate::{NoProgram, Passed, Scope, parts};
 use lexer::gaps;
 use text_shape::role;
 use tokens::kind;
@@ -16,98 +17,88 @@ use tokens::kind;
 fn quiet(role: u8) -> bool
     ensures { result ≡ true → Quiet role }
 {
-    if role < kind::INT {
-        return role != kind::SEMICOLON;
+    match role {
+        kind::SEMICOLON => false,
+        0..kind::INT => true,
+        role::FIRST_PART..role::ARGS_CLOSE => true,
+        _ => role > role::NO_ARGS_CLOSE && role < role::BODY_CLOSE,
     }
-    if role < role::FIRST_PART {
-        return false;
-    }
-    if role < role::ARGS_CLOSE {
-        return true;
-    }
-    role > role::NO_ARGS_CLOSE && role < role::BODY_CLOSE
 }
 
-// One place where a token begins.
-fn use_at(
-    text: &[u8],
-    tables: &[usize],
-    locals: &mut [usize],
-    stack: &mut [u8],
-    at: usize,
-    role: u8,
-    c: Scope,
-) -> Passed
-    requires { Booked tables.now × Roomy tables.now locals.old c × (c.dues + c.bodies < length stack.old) × (at < length text.now) }
-    ensures by_index { (o : List ℕ) → passed_in text.now locals.new stack.new result o
-        ≡ use_at (book_in text.now tables.now) role (drop at text.now)
-        (use_in text.now locals.old stack.old c o) }
-    ensures next { Next tables.now locals.new c result }
-    ensures stack_len_unchanged { (length stack.new ≡ length stack.old) × (length locals.new ≡ length locals.old) }
-{
-    if quiet(role) {
-        return Passed::On(c);
+impl Book<'_> {
+    // One place where a token begins.
+    fn use_at(self, locals: &mut [usize], stack: &mut [u8], at: usize, role: u8, c: Scope) -> Passed
+        requires { Roomy self.tables.now locals.old c × (c.dues + c.bodies < length stack.old) × (at < length self.text.now) }
+        ensures by_index { (o : List ℕ) → passed_in self.entry.text.now locals.new stack.new result o
+            ≡ use_at (book_in self.entry.text.now self.entry.tables.now) role (drop at self.entry.text.now)
+            (use_in self.entry.text.now locals.old stack.old c o) }
+        ensures next { Next self.entry.tables.now locals.new c result }
+        ensures stack_len_unchanged { (length stack.new ≡ length stack.old) × (length locals.new ≡ length locals.old) }
+    {
+        if quiet(role) {
+            return Some((c, None));
+        }
+        if role < role::FIRST_NAME {
+            return parts::kind_role(self.text, at, role, c);
+        }
+        if role < role::FIRST_USE {
+            return self.declared_name(locals, at, role, c);
+        }
+        if role < role::FIRST_TYPE {
+            return self.used_name(locals, stack, at, role, c);
+        }
+        if role < role::FIRST_PART {
+            return self.type_role(at, role, c);
+        }
+        parts::part_role(stack, role, c)
     }
-    if role < role::FIRST_NAME {
-        return parts::kind_role(text, at, role, c);
-    }
-    if role < role::FIRST_USE {
-        return passing::declared_name(text, tables, locals, at, role, c);
-    }
-    if role < role::FIRST_TYPE {
-        return passing::used_name(text, tables, locals, stack, at, role, c);
-    }
-    if role < role::FIRST_PART {
-        return passing::type_role(text, tables, at, role, c);
-    }
-    parts::part_role(stack, role, c)
-}
 
-// The numbers of a text's uses, in order; or that there are none (17), and the place of the token at which that is told.
-pub(crate) fn uses(
-    text: &[u8],
-    roles: &[u8],
-    tables: &[usize],
-    locals: &mut [usize],
-    stack: &mut [u8],
-    numbers: &mut [u8],
-) -> Numbered
-    requires booked { Booked tables.now × (length locals.old ≡ bytes_end) }
-    requires roles_len { (length roles.now ≡ length text.now) × (length roles.now < length stack.old) × (length roles.now ≤ length numbers.old) }
-    ensures result_after { numbered_in numbers.new result
-        ≡ used_out (uses_at (book_in text.now tables.now) text.now roles.now use_start) }
-    ensures counted { Counted numbers.new result (Unit {0}) }
-    ensures roles_value { (stop_in result (length roles.now)
-        ≡ stops_at (book_in text.now tables.now) text.now roles.now use_start)
-        × (stop_in result (length roles.now) ≤ length roles.now) }
-    ensures stack_len_unchanged { (length stack.new ≡ length stack.old) × (length locals.new ≡ length locals.old)
-        × (length numbers.new ≡ length numbers.old) }
-{
-    let mut c = Scope {
-        begun: 0,
-        met: 0,
-        living: 0,
-        fresh: 0,
-        typ: 0,
-        dues: 0,
-        bodies: 0,
-    };
-    let mut n = 0;
-    let mut i = gaps::first(roles);
-    while i < roles.len() {
-        let at = i;
-        i = gaps::next(roles, at + 1);
-        match use_at(text, tables, locals, stack, at, roles[at], c) {
-            Passed::Stop => return Numbered::Nothing(at),
-            Passed::On(d) => {
-                c = d;
-            }
-            Passed::Left(d, m) => {
-                numbers[n] = m;
-                n += 1;
-                c = d;
+    // The numbers of a text's uses, in order, and their count; or that there are none (17), and the place of the token at which that is told.
+    pub(crate) fn uses(
+        self,
+        roles: &[u8],
+        locals: &mut [usize],
+        stack: &mut [u8],
+        numbers: &mut [u8],
+    ) -> Result<usize, NoProgram>
+        requires locals_len { length locals.old ≡ bytes_end }
+        requires roles_len { (length roles.now ≡ length self.text.now) × (length roles.now < length stack.old) × (length roles.now ≤ length numbers.old) }
+        ensures result_after { numbered_in numbers.new result
+            ≡ used_out (uses_at (book_in self.entry.text.now self.entry.tables.now) self.entry.text.now roles.now use_start) }
+        ensures counted { Counted numbers.new result (Unit {0}) }
+        ensures roles_value { (stop_in result (length roles.now)
+            ≡ stops_at (book_in self.entry.text.now self.entry.tables.now) self.entry.text.now roles.now use_start)
+            × (stop_in result (length roles.now) ≤ length roles.now) }
+        ensures stack_len_unchanged { (length stack.new ≡ length stack.old) × (length locals.new ≡ length locals.old)
+            × (length numbers.new ≡ length numbers.old) }
+    {
+        let mut c = Scope {
+            begun: 0,
+            met: 0,
+            living: 0,
+            fresh: 0,
+            typ: 0,
+            dues: 0,
+            bodies: 0,
+        };
+        let mut n = 0;
+        // From token to token, not from place to place.
+        let mut i = gaps::first(roles);
+        while i < roles.len() {
+            let at = i;
+            i = gaps::next(roles, at + 1);
+            match self.use_at(locals, stack, at, roles[at], c) {
+                None => return Err(NoProgram { at }),
+                Some((d, None)) => {
+                    c = d;
+                }
+                Some((d, Some(m))) => {
+                    numbers[n] = m;
+                    n += 1;
+                    c = d;
+                }
             }
         }
+        Ok(n)
     }
-    Numbered::Count(n)
 }

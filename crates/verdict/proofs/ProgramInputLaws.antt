@@ -1,6 +1,6 @@
 -- Checking a program image is exact (01, 1 to 8 and 13 of 'Numbers from the input'): it is refused with a number exactly where
 -- that number's condition is foremost, and accepted exactly where it meets 01's conditions.
-use Rattle.std.specs.Prelude.{ℕ, ◌≤◌, ◌↔◌, Bool, List, [], ◌∷◌, length}
+use Rattle.std.specs.Prelude.{ℕ, ◌≤◌, ◌↔◌, Bool, List, [], ◌∷◌, length, Option, Some, None}
 use Rattle.std.proofs.Common.{arith, sym, ◌∙◌}
 use Rattle.std.proofs.Math.Path.{◌≡◌, refl, ap}
 use borrow.Author.Tests.{le-ltb}
@@ -10,8 +10,6 @@ use Rattle.blocks.specs.Faults.{AllRight, FirstFault, Says}
 use Rattle.blocks.proofs.FaultLaws.{first_exact, fault_says}
 use Rattle.block.specs.declared.Fault.{Fault}
 use Rattle.block.specs.declared.Fault.TheVariants.{Length, Sum, Layout}
-use Rattle.block.specs.declared.Found.{Found}
-use Rattle.block.specs.declared.Found.TheVariants.{Right, Wrong}
 use Rattle.program.specs.Tree.{Program}
 use Rattle.program.specs.Encoding.{enc_program}
 use Rattle.program.specs.Counts.{Counts}
@@ -45,14 +43,14 @@ one_program {p} {q} r s = enc_injective p q r.counts s.counts (sym r.bytes ∙ s
 -- a first fault is one fault; right blocks have none
 one_fault : (x : List ℕ) (f g : Fault) → FirstFault (count x) x (count x) f → FirstFault (count x) x (count x) g → f ≡ g
 one_fault x f g a b =
-    let p = first_exact (count x) x (count x) (Wrong f) a in
-    let q = first_exact (count x) x (count x) (Wrong g) b in
+    let p = first_exact (count x) x (count x) (Some f) a in
+    let q = first_exact (count x) x (count x) (Some g) b in
     cc
 
 pub no_fault : (x : List ℕ) (f : Fault) → AllRight (count x) x (count x) → FirstFault (count x) x (count x) f → ⊥
 no_fault x f a b =
-    let p = first_exact (count x) x (count x) Right a in
-    let q = first_exact (count x) x (count x) (Wrong f) b in
+    let p = first_exact (count x) x (count x) None a in
+    let q = first_exact (count x) x (count x) (Some f) b in
     let z : ◌≡◌ {A = ℕ} 0 1 = cc in omega arith
 
 module _ (x : List ℕ) where
@@ -118,13 +116,13 @@ module _ (x : List ℕ) where
   unfolding checked of_image
   tell_checked = go (fault program_blocks x) (fault_says program_blocks x)
     where
-      go : (f : Found) → Says program_blocks x f → Tell (program_order x) (of_image f x)
-      go (Wrong Length) s = here refl s
-      go (Wrong Sum) s = past (λ f. f s.0) (here refl s.1)
-      go (Wrong Layout) s =
+      go : (f : Option Fault) → Says program_blocks x f → Tell (program_order x) (of_image f x)
+      go (Some Length) s = here refl s
+      go (Some Sum) s = past (λ f. f s.0) (here refl s.1)
+      go (Some Layout) s =
           past (λ f. f s.0)
           (past (λ b. let e = one_fault x Sum Layout b s.1 in let z : ◌≡◌ {A = ℕ} 0 1 = cc in omega arith) (here refl s.1))
-      go Right s =
+      go None s =
           past (λ f. f s.0)
           (past (no_fault x Sum s.1)
           (past (no_fault x Layout s.1)

@@ -1,17 +1,16 @@
 -- Checking (01, 'Numbers from the input' and 'Names, types, commands'): a program image to its program or the number of its refusal; with a lent list to
 -- what is reported, and to the list's places.
-use Rattle.std.specs.Prelude.{ℕ, zero, suc, List, ◌++◌, length, drop, ltb}
+use Rattle.std.specs.Prelude.{ℕ, zero, suc, List, ◌++◌, length, drop, ltb, Option, Some, None}
 use Rattle.types.specs.Limits.{program_blocks, max_commands}
 use Rattle.types.specs.Numbers.{no_room}
 use Rattle.types.specs.Stages.{Stage, Stage.went as accepted, Stage.stopped as refused, on, asked}
-use Rattle.block.specs.declared.Found.{Found}
-use Rattle.block.specs.declared.Found.TheVariants.{Right, Wrong}
 use Rattle.blocks.specs.Images.{fault, stream, program_number as block_number}
 use Rattle.program.specs.Tree.{Program}
 use Rattle.program.specs.Reader.{Result, Result.ok, Result.bad, read}
 use Rattle.commands.specs.Bounds.{total, program_size, program_depth}
 use Rattle.commands.specs.ProgramWords.{program_words}
 use Rattle.commands.specs.Numbers.{breach_number}
+use Rattle.block.specs.declared.Fault.{Fault}
 
 -- A program image --------------------------------------------------------------------
 
@@ -27,9 +26,9 @@ unfoldable pub of_read : Result Program → Checked
 of_read (ok p at) = judge p (breach_number p)
 of_read (bad at n) = refused n
 
-unfoldable pub of_image : Found → List ℕ → Checked
-of_image (Wrong f) x = refused (block_number f)
-of_image Right x = of_read (read (stream x))
+unfoldable pub of_image : Option Fault → List ℕ → Checked
+of_image (Some f) x = refused (block_number f)
+of_image None x = of_read (read (stream x))
 
 -- 1 to 8, or the program
 unfoldable pub checked : List ℕ → Checked

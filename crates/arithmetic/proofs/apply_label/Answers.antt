@@ -1,18 +1,19 @@
 -- `apply_label` meets its contract: only = and ≠ take labels.
-use Rattle.std.proofs.Common.{arith, ◌∙◌}
+use Rattle.std.proofs.Common.{ap, ◌∙◌}
 use Rattle.operators.specs.Apply.{on_labels, apply}
-use Rattle.operators.specs.Words.{op_of}
-use Rattle.operators.proofs.Laws.WordLaws.{op_first, labels_unfit}
+use Rattle.operators.specs.Named.{meant}
+use Rattle.operators.specs.Words.{answered}
+use Rattle.operators.proofs.Laws.OperatorLaws.{labels_unfit}
+use Rattle.arithmetic.specs.Answered.{telling}
 use Rattle.arithmetic.proofs.apply_label.Goals as goal
-
-pub returns-then-op-le-EQ : goal.returns-then-op-le-EQ
-unfolding apply on_labels
-returns-then-op-le-EQ c = c.truth.ensures ∙ rw (op_first c.if-op-le-EQ.true)
-
-pub returns-then-op-eq-NE : goal.returns-then-op-eq-NE
-unfolding apply on_labels op_of
-returns-then-op-eq-NE c = c.truth-then-op-eq-NE.ensures ∙ rw c.if-op-eq-NE.true
+use Rattle.arithmetic.proofs.apply_label.Goals.{in-Eq, in-Ne, in_default}
 
 pub returns : goal.returns
-unfolding apply
-returns c = labels_unfit _ _ (omega arith)
+unfolding apply on_labels meant telling
+returns c =
+    let s = c.args in
+    elim c.match-op.branch [
+      | in-Eq w ↦ c.truth.ensures ∙ rw (w.truth-is, w.in-Eq.is)
+      | in-Ne w ↦ c.truth.ensures ∙ rw (w.truth-is, w.in-Ne.is)
+      | in_default w ↦ c.truth.ensures ∙ rw w.truth-is (ap answered (labels_unfit s.a s.b s.op w.in_default.not-Eq w.in_default.not-Ne))
+    ]

@@ -1,70 +1,49 @@
--- `apply_nat` meets its contract, one return for each byte and each side of a range.
-use Rattle.std.proofs.Common.{ℕ, ◌<◌, arith, ◌≡◌, ◌∙◌, pos}
-use mir.Syntax.{w64}
-use mir.Val.{to_z}
-use mir.ValLaws.{to_z_pos}
-use Rattle.types.specs.Limits.{nat_end}
-use Rattle.operators.specs.Apply.{nat_answer, by_nonzero, answer, compute, apply}
-use Rattle.operators.specs.Words.{op_of, answered}
-use Rattle.operators.proofs.Laws.WordLaws.{numbers_unfit}
-use Rattle.operators.proofs.Laws.NatLaws.{nat_in, nat_out, nat_less, nat_more, nat_product, nat_quotient, nat_remainder}
-use Rattle.arithmetic.specs.PastLaws.{past_computing}
+-- `apply_nat` meets its contract, one way for each operator that takes numbers.
+use Rattle.std.proofs.Common.{◌+◌, ◌*◌, ap, ◌∙◌, Ok}
+use Rattle.operators.specs.Apply.{same_int, nat_answer, answer, compute, apply}
+use Rattle.operators.specs.Named.{meant}
+use Rattle.operators.specs.Words.{answered}
+use Rattle.operators.proofs.Laws.NatLaws.{nat_found, nat_left, nat_divided, nat_leaving}
+use Rattle.arithmetic.proofs.AnsweredLaws.{truth_word, numbers_unfit}
 use Rattle.arithmetic.proofs.apply_nat.Goals as goal
+use Rattle.arithmetic.proofs.apply_nat.Goals.{in-Eq, in-Ne, in-Le, in-Ge, in-Lt, in-Gt}
 
--- a word read as a number with a sign of 64 bits is that number
-word_back : (n : ℕ) → n < nat_end → to_z w64 n ≡ pos n
-word_back n l = to_z_pos w64 n (omega arith)
+pub returns-in-Mul : goal.returns-in-Mul
+unfolding apply answer compute meant
+returns-in-Mul c = let s = c.args in c.ok_or.ensures.value ∙ rw c.in-Mul.is (nat_found _ (s.a * s.b) c.checked_mul.ensures)
 
-pub returns-then-op-le-GT : goal.returns-then-op-le-GT
+pub returns-in-Div : goal.returns-in-Div
+unfolding apply answer compute meant
+returns-in-Div c = let s = c.args in c.ok_or-in-Div.ensures.value ∙ rw c.in-Div.is (nat_divided _ s.a s.b c.ranges.a.fits c.checked_div.ensures)
+
+pub returns-in-Rem : goal.returns-in-Rem
+unfolding apply answer compute meant
+returns-in-Rem c = let s = c.args in c.ok_or-in-Rem.ensures.value ∙ rw c.in-Rem.is (nat_leaving _ s.a s.b c.ranges.a.fits c.checked_rem.ensures)
+
+pub returns-in-Add : goal.returns-in-Add
+unfolding apply answer compute meant
+returns-in-Add c = let s = c.args in c.ok_or-in-Add.ensures.value ∙ rw c.in-Add.is (nat_found _ (s.a + s.b) c.checked_add.ensures)
+
+pub returns-in-Sub : goal.returns-in-Sub
+unfolding apply answer compute meant
+returns-in-Sub c = let s = c.args in c.ok_or-in-Sub.ensures.value ∙ rw c.in-Sub.is (nat_left _ s.a s.b c.ranges.a.fits c.checked_sub.ensures)
+
+pub returns-in_default : goal.returns-in_default
 unfolding apply
-returns-then-op-le-GT c = c.compare.ensures nat_answer ∙ rw (word_back _ c.ranges.a.fits, word_back _ c.ranges.b.fits)
-
-pub overflow_mul-n : goal.overflow_mul-n
-overflow_mul-n c = nat_product c.args.a c.args.b c.ranges.a.fits c.ranges.b.fits
-
-pub returns-then-n-lt-NAT_END : goal.returns-then-n-lt-NAT_END
-unfolding apply answer compute op_of
-returns-then-n-lt-NAT_END c = rw c.if-op-eq-MUL.true (nat_in _ c.if-n-lt-NAT_END.true)
-
-pub returns-then-op-eq-MUL : goal.returns-then-op-eq-MUL
-unfolding apply answer compute op_of
-returns-then-op-eq-MUL c = rw c.if-op-eq-MUL.true (nat_out _ c.if-n-lt-NAT_END.false)
-
-pub returns-then-b-eq0 : goal.returns-then-b-eq0
-unfolding apply answer compute op_of by_nonzero nat_answer answered
-returns-then-b-eq0 c = rw (c.if-op-eq-DIV.true, c.if-b-eq0.true)
-
-pub returns-then-op-eq-DIV : goal.returns-then-op-eq-DIV
-unfolding apply answer compute op_of
-returns-then-op-eq-DIV c = rw c.if-op-eq-DIV.true (nat_quotient c.args.a c.args.b c.if-b-eq0.false c.ranges.a.fits)
-
-pub returns-then-b-eq0-2 : goal.returns-then-b-eq0-2
-unfolding apply answer compute op_of by_nonzero nat_answer answered
-returns-then-b-eq0-2 c = rw (c.if-op-eq-REM.true, c.if-b-eq0-2.true)
-
-pub returns-then-op-eq-REM : goal.returns-then-op-eq-REM
-unfolding apply answer compute op_of
-returns-then-op-eq-REM c = rw c.if-op-eq-REM.true (nat_remainder c.args.a c.args.b c.if-b-eq0-2.false c.ranges.a.fits)
-
-pub returns-then-n-lt-NAT_END-2 : goal.returns-then-n-lt-NAT_END-2
-unfolding apply answer compute op_of
-returns-then-n-lt-NAT_END-2 c = rw c.if-op-eq-ADD.true (nat_in _ c.if-n-lt-NAT_END-2.true)
-
-pub returns-then-op-eq-ADD : goal.returns-then-op-eq-ADD
-unfolding apply answer compute op_of
-returns-then-op-eq-ADD c = rw c.if-op-eq-ADD.true (nat_out _ c.if-n-lt-NAT_END-2.false)
-
-pub returns-then-a-b : goal.returns-then-a-b
-unfolding apply answer compute op_of
-returns-then-a-b c = rw c.if-op-eq-SUB.true (nat_less c.args.a c.args.b c.if-a-b.true)
-
-pub returns-then-op-eq-SUB : goal.returns-then-op-eq-SUB
-unfolding apply answer compute op_of
-returns-then-op-eq-SUB c = rw c.if-op-eq-SUB.true (nat_more c.args.a c.args.b c.if-a-b.false c.ranges.a.fits)
+returns-in_default c =
+    let s = c.args in
+    let n = c.in_default in
+    numbers_unfit nat_answer _ _ s.op n.not-Eq n.not-Ne n.not-Le n.not-Ge n.not-Lt n.not-Gt n.not-Mul n.not-Div n.not-Rem n.not-Add n.not-Sub
 
 pub returns : goal.returns
-unfolding apply
+unfolding apply answer compute meant answered same_int
 returns c =
-    numbers_unfit nat_answer _ _
-    (past_computing c.if-op-le-GT.false c.if-op-eq-MUL.false c.if-op-eq-DIV.false c.if-op-eq-REM.false
-    c.if-op-eq-ADD.false c.if-op-eq-SUB.false)
+    let word = ap Ok (c.from.ensures ∙ truth_word c.match-op.holds) in
+    elim c.match-op.branch [
+      | in-Eq w ↦ word ∙ rw (w.holds-is, w.in-Eq.is)
+      | in-Ne w ↦ word ∙ rw (w.holds-is, w.in-Ne.is)
+      | in-Le w ↦ word ∙ rw (w.holds-is, w.in-Le.is)
+      | in-Ge w ↦ word ∙ rw (w.holds-is, w.in-Ge.is)
+      | in-Lt w ↦ word ∙ rw (w.holds-is, w.in-Lt.is)
+      | in-Gt w ↦ word ∙ rw (w.holds-is, w.in-Gt.is)
+    ]

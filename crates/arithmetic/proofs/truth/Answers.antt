@@ -1,12 +1,14 @@
 -- `truth` meets its contract: a truth's word is 1 or 0.
-use Rattle.types.specs.Values.{word}
+use Rattle.std.proofs.Common.{ap, ◌∙◌, Ok}
 use Rattle.operators.specs.Words.{answered}
+use Rattle.arithmetic.specs.Answered.{telling}
+use Rattle.arithmetic.proofs.AnsweredLaws.{truth_word}
 use Rattle.arithmetic.proofs.truth.Goals as goal
 
-pub returns-then-t : goal.returns-then-t
-unfolding answered word
-returns-then-t c = rw c.if-t.true
+pub returns-in-Some : goal.returns-in-Some
+unfolding answered telling
+returns-in-Some c = rw c.in-Some.is (ap Ok (c.from.ensures ∙ truth_word c.in-Some.t))
 
-pub returns : goal.returns
-unfolding answered word
-returns c = rw c.if-t.false
+pub returns-in-None : goal.returns-in-None
+unfolding answered telling
+returns-in-None c = rw c.in-None.is

@@ -4,17 +4,17 @@ use Rattle.step_part.specs.StepPartLaws.{place_fits}
 use Rattle.audala.specs.Exported.{exported_part}
 use Rattle.audala.proofs.audala_step.Goals as goal
 
+pub overflow_cast-result : goal.overflow_cast-result
+overflow_cast-result c =
+    let args = c.args in
+    let f = rw (← c.step_place-p.ensures) at (place_fits args.image.now args.list.now args.structure args.name) in
+    omega (arith, f)
+
 pub overflow_cast-result-2 : goal.overflow_cast-result-2
 overflow_cast-result-2 c =
     let args = c.args in
     let f = rw (← c.step_place-p.ensures) at (place_fits args.image.now args.list.now args.structure args.name) in
     omega (arith, f)
 
-pub overflow_cast-result-3 : goal.overflow_cast-result-3
-overflow_cast-result-3 c =
-    let args = c.args in
-    let f = rw (← c.step_place-p.ensures) at (place_fits args.image.now args.list.now args.structure args.name) in
-    omega (arith, f)
-
 pub returns : goal.returns
-returns c = ap exported_part c.step_place-p.ensures
+returns c = rw c.from.ensures (ap exported_part c.step_place-p.ensures)

@@ -1,19 +1,18 @@
 -- The answer on a block is exact: what it says holds, and a faulty block is not right and has one first fault.
-use Rattle.std.specs.Prelude.{◌≡◌, ℕ, Bool, true, false, List, refl}
+use Rattle.std.specs.Prelude.{◌≡◌, ℕ, Bool, true, false, List, refl, Some, None}
 use Rattle.types.specs.Reflects.{Reflects, Reflects.holds, Reflects.fails}
 use Rattle.block.specs.Block.{SumsRight, LaidOut, block_fault}
 use Rattle.block.proofs.Laws.BlockLaws.{sums_exact, layout_exact}
 use Rattle.block.specs.BlockFaults.{BlockRight, HasFault, BlockSays}
 use Rattle.block.specs.declared.Fault.{Fault}
 use Rattle.block.specs.declared.Fault.TheVariants.{Length, Sum, Layout}
-use Rattle.block.specs.declared.Found.TheVariants.{Right, Wrong}
 
 pub block_says : (k : ℕ) (last : Bool) (b : List ℕ) → BlockSays k last b (block_fault k last b)
 unfolding block_fault
 block_says k last b = go (sums_exact b) (layout_exact k last b)
   where
     go : {s l : Bool} → Reflects (SumsRight b) s → Reflects (LaidOut k last b) l
-        → BlockSays k last b (elim s [ false ↦ Wrong Sum | true ↦ elim l [ false ↦ Wrong Layout | true ↦ Right ] ])
+        → BlockSays k last b (elim s [ false ↦ Some Sum | true ↦ elim l [ false ↦ Some Layout | true ↦ None ] ])
     go (fails n) r = n
     go (holds h) (fails n) = (h, n)
     go (holds h) (holds k) = record { sums = h; layout = k }

@@ -1,6 +1,6 @@
 -- Laws of one block (01, 'Blocks'): the tests of its sums and of its layout are exact.
-use Rattle.std.specs.Prelude.{◌≡◌, ℕ, zero, suc, ◌+◌, ◌-◌, ◌<◌, ◌≤◌, Bool, true, false, List, [], ◌∷◌, length, take, ◌≢◌, refl}
-use Rattle.std.proofs.Common.{arith, add-one, ap, sym, ◌∙◌, length-take, drop_of_length-le, get_or-take, get_or-drop, ne_eqb}
+use Rattle.std.specs.Prelude.{◌≡◌, ℕ, zero, suc, ◌+◌, ◌-◌, ◌<◌, ◌≤◌, Bool, true, false, List, [], ◌∷◌, length, take, ◌≢◌, refl, IsTrue, ◌↔◌, EachIndex}
+use Rattle.std.proofs.Common.{arith, add-one, ap, sym, ◌∙◌, length-take, drop_of_length-le, get_or-take, get_or-drop, ne_eqb, true≢false}
 use Rattle.std.proofs.Math.ListN.{get_or-eq_default}
 use Rattle.std.proofs.Math.Seq.{slice, slice-cons}
 use Rattle.block.specs.Sums.{byte, sum_a, sum_b}
@@ -29,6 +29,23 @@ zeros_exact (x ∷ xs) = reflects_map every (λ p. (p zero, λ i. p (suc i))) (r
     every : (x ≡ 0) × ((i : ℕ) → byte xs i ≡ 0) → (i : ℕ) → byte (x ∷ xs) i ≡ 0
     every p zero = p.0
     every p (suc i) = p.1 i
+
+-- a test that holds where each byte is zero is that test
+pub zeros_told : (xs : List ℕ) (t : Bool) → (IsTrue t ↔ EachIndex xs (λ i. byte xs i ≡ 0)) → t ≡ zeros xs
+zeros_told xs t told = go t told (zeros_exact xs)
+  where
+    whole : EachIndex xs (λ i. byte xs i ≡ 0) → (i : ℕ) → byte xs i ≡ 0
+    whole p i = below (le_reflects (length xs) i)
+      where
+        below : {u : Bool} → Reflects (length xs ≤ i) u → byte xs i ≡ 0
+        below (holds h) = get_or-eq_default xs 0 h
+        below (fails n) = p i (omega arith)
+
+    go : (t : Bool) → (IsTrue t ↔ EachIndex xs (λ i. byte xs i ≡ 0)) → {u : Bool} → Reflects ((i : ℕ) → byte xs i ≡ 0) u → t ≡ u
+    go true told (holds h) = refl
+    go true told (fails n) = absurd (n (whole (told.0 refl)))
+    go false told (holds h) = told.1 (λ i k. h i)
+    go false told (fails n) = refl
 
 -- the bytes of a part are those of the list from there on
 slice_byte : (f t : ℕ) (b : List ℕ) (i : ℕ) → f + i < t → byte (slice f t b) i ≡ byte b (f + i)
@@ -65,6 +82,15 @@ layout_exact k last b =
     reflects_map (λ p. record { index_right = p.0; used_right = p.1.0; unused_zero = p.1.1 })
     (λ r. (r.index_right, (r.used_right, r.unused_zero)))
     (reflects_both (eq_reflects (index b) k) (reflects_both (used_exact last (used b)) (unused_exact b)))
+
+-- a used part that is right ends before the sums
+pub used_small : (last : Bool) (u : ℕ) → used_right last u ≡ true → u ≤ payload_size
+used_small last u e = go last (used_exact last u) e
+  where
+    go : (last : Bool) {t : Bool} → Reflects (UsedRight last u) t → t ≡ true → u ≤ payload_size
+    go true (holds h) e = h.1
+    go false (holds h) e = omega arith
+    go last (fails n) e = absurd (true≢false (sym e))
 
 -- A walk over the bytes up to 507 -------------------------------------------------
 

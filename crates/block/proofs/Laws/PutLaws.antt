@@ -1,8 +1,9 @@
 -- Laws of bytes written into a list: how long it stays, and how writes follow one another.
-use Rattle.std.specs.Prelude.{◌≡◌, ℕ, ◌+◌, ◌<◌, ◌≤◌, List, [], ◌∷◌, ◌++◌, length, take, drop, set, slice_index, slice_set}
+use Rattle.std.specs.Prelude.{◌≡◌, ℕ, ◌+◌, ◌-◌, ◌<◌, ◌≤◌, List, [], ◌∷◌, ◌++◌, length, take, drop, set, slice_index, slice_set}
 use native.Mathlib.Omega.{arith}
 use Rattle.std.proofs.Common.{zero-add, add-one, ◌∙◌, append_assoc, length-drop, take-append-drop, take-suc}
-use Rattle.std.proofs.Math.Path.{ap, sym}
+use Rattle.std.proofs.Math.Path.{ap, sym, refl}
+use borrow.Rule.Slice.PartMut.{put_mid}
 use Rattle.std.proofs.Math.ListN.{length-append}
 use Rattle.std.proofs.Math.Seq.{length-take-le, take_at, drop-append-add, drop-drop}
 use Rattle.std.proofs.lemmas.List.{set_split}
@@ -50,6 +51,13 @@ module _ (d : List ℕ) (at : ℕ) (xs : List ℕ) where
   put_set x h =
       let fits : at + length xs ≤ length d = omega arith in
       put_one (put d at xs) (at + length xs) x (rw length_put (omega arith)) ∙ put_put (x ∷ []) (omega arith)
+
+-- a part of the list that is written over
+pub part_put : (d xs : List ℕ) (at n : ℕ) → at + n ≤ length d → length xs ≡ n → put_mid at (at + n - at) d xs ≡ put d at xs
+unfolding put
+part_put d xs at n h e =
+    let k : at + n - at ≡ length xs = omega arith in
+    rw (k, drop-drop) refl
 
 -- a turn of a loop that copies s
 pub put_turn : (d : List ℕ) (at : ℕ) (s : List ℕ) (i : ℕ) → at + length s ≤ length d → i < length s

@@ -1,30 +1,25 @@
--- `sums` meets its contract. The loop's invariant: A is the sum of the bytes passed, B the sum of the running sums, each wrapped. The measure is
--- what is left of the 508 bytes.
-use Rattle.std.proofs.Common.{◌≡◌, ℕ, ◌-◌, ◌*◌, ◌%◌, ◌≤◌, refl, subst, arith}
+-- `sums` meets its contract. The loop's invariant: A is the sum of the bytes passed, B the sum of the running sums, each wrapped.
+use Rattle.std.proofs.Common.{◌≡◌, ℕ, ◌-◌, ◌*◌, ◌%◌, ◌≤◌, ◌∙◌, refl, subst, arith, get_or-take, length-take, length-take-le, ◌<◌}
 use Rattle.block.specs.Sums.{byte, sum, sum_a, sum_b}
 use Rattle.block.proofs.Laws.SumLaws.{sums_turn}
 use Rattle.block.proofs.sums.Goals as goal
 
-pub loop-i-init : goal.loop-i-init
+pub loop-byte-init : goal.loop-byte-init
 unfolding sum
-loop-i-init c = omega arith
+loop-byte-init c = omega arith
 
-pub overflow_cast-block : goal.overflow_cast-block
-overflow_cast-block c = omega (arith, c.type_inv.block c.loop-i.i)
-
-pub loop-i-preserved : goal.loop-i-preserved
-loop-i-preserved c =
-    let args = c.args in let s = args.block.now in let i = c.loop-i.i in
-    let inv = c.loop-i.invariant in (
-      omega arith,
-      sums_turn s i _ _ _ _ _ inv.1.0 inv.1.1 refl (omega (arith, c.type_inv.block i))
-          c.wrapping_add_u16-a.ensures.value c.wrapping_add_u16-b.ensures.value,
-    )
+pub loop-byte-preserved : goal.loop-byte-preserved
+loop-byte-preserved c =
+    let s = c.args.block.now in
+    let inv = c.loop-byte.invariant in
+    let i : c.loop-byte.byte-index < 508 = omega (arith, c.loop-byte-test.true, length-take 508 s) in
+    let is : c.from-a.result ≡ byte s c.loop-byte.byte-index = c.from-a.ensures ∙ get_or-take 508 s _ 0 i in
+    sums_turn s c.loop-byte.byte-index _ _ _ _ _ inv.0 inv.1 is (omega (arith, is, c.type_inv.block c.loop-byte.byte-index)) refl refl
 
 pub returns : goal.returns
 unfolding sum_a sum_b
 returns c =
-    let args = c.args in let loop = c.loop-i in
-    let s = args.block.now in
-    let e : loop.i ≡ 508 = omega arith in
-    subst (λ (n : ℕ). (loop.a ≡ sum n (λ j. byte s j) % 65536) × (loop.b ≡ sum n (λ j. (n - j) * byte s j) % 65536)) e loop.invariant.1
+    let loop = c.loop-byte in
+    let s = c.args.block.now in
+    let e : loop.byte-index ≡ 508 = omega (arith, c.loop-byte-test.false, c.loop-byte.auto.byte-index-end, length-take-le 508 s c.requires) in
+    subst (λ (n : ℕ). (loop.a ≡ sum n (λ j. byte s j) % 65536) × (loop.b ≡ sum n (λ j. (n - j) * byte s j) % 65536)) e loop.invariant

@@ -4,16 +4,14 @@ use Rattle.std.proofs.lemmas.Bool.{lt-leb}
 use Rattle.block.specs.Block.{used_right}
 use Rattle.block.proofs.used_right.Goals as goal
 
-pub returns-then-used-lt1 : goal.returns-then-used-lt1
+pub returns-then-used-ge1 : goal.returns-then-used-ge1
 unfolding used_right
-returns-then-used-lt1 c = let l = c.if-used-lt1.true in rw (c.if-last.true, used_right, lt-leb)
+returns-then-used-ge1 c = let l : 1 ≤ c.args.used = c.if-used-ge1.true in rw (c.if-last.true, used_right, le-leb 1 c.args.used l)
 
-pub returns-then-last : goal.returns-then-last
+pub returns-else-used-ge1 : goal.returns-else-used-ge1
 unfolding used_right
-returns-then-last c =
-    let args = c.args in
-    let h = c.if-last.true in let l : 1 ≤ args.used = c.if-used-lt1.false in rw (h, used_right, le-leb 1 args.used l)
+returns-else-used-ge1 c = let l = c.if-used-ge1.false in rw (c.if-last.true, used_right, lt-leb)
 
-pub returns : goal.returns
+pub returns-else-last : goal.returns-else-last
 unfolding used_right
-returns c = rw (c.if-last.false, used_right)
+returns-else-last c = rw (c.if-last.false, used_right)

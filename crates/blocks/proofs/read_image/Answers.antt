@@ -4,11 +4,11 @@ use Rattle.blocks.specs.Images.{stream, read_into}
 use Rattle.blocks.proofs.ImageWays.{accepted, read_refused, read_short, read_done, read_after}
 use Rattle.blocks.proofs.read_image.Goals as goal
 
-pub returns-in-Wrong : goal.returns-in-Wrong
+pub returns-in-Some : goal.returns-in-Some
 unfolding read_into
-returns-in-Wrong c =
+returns-in-Some c =
     let args = c.args in
-    record { value = read_refused _ args.image.now _ _ (sym c.image_fault.ensures ∙ c.in-Wrong.is); buffer_after = refl }
+    record { value = read_refused _ args.image.now _ _ (sym c.image_fault.ensures ∙ c.in-Some.is); buffer_after = refl }
 
 pub stream_length-length-requires : goal.stream_length-length-requires
 stream_length-length-requires c =

@@ -1,20 +1,11 @@
--- `bytes` meets its contract. The invariant: what is digested so far, with the bytes that are left, is the digest of all.
-use Rattle.std.proofs.Common.{arith, refl, sym, ◌∙◌}
+use Rattle.std.proofs.Common.{◌∙◌, sym, rules}
 use Rattle.cases.specs.CasesLaws.{bytes_none, bytes_more}
 use Rattle.cases.proofs.bytes.Goals as goal
 
-pub loop-i-init : goal.loop-i-init
-loop-i-init c = (omega arith, refl)
-
-pub digested-h-requires : goal.digested-h-requires
-digested-h-requires c = (c.loop-i.invariant.0, c.wide.ensures.1)
-
-pub loop-i-preserved : goal.loop-i-preserved
-loop-i-preserved c = (
-  c.digested-h.ensures.1,
-  bytes_more c.args.s.now c.loop-i.i c.loop-i.h _ c.loop-i-test.true
-      (c.digested-h.ensures.0 ∙ rw c.wide.ensures.0) ∙ c.loop-i.invariant.1,
-)
+pub loop-b-preserved : goal.loop-b-preserved
+loop-b-preserved c =
+    let l = c.loop-b in let more = c.digested-digest.ensures in
+    (more.1, bytes_more c.args.s.now l.b-index l.digest _ c.loop-b-test.true (search rules) ∙ l.invariant.1)
 
 pub returns : goal.returns
-returns c = sym (bytes_none c.args.s.now c.loop-i.i c.loop-i.h c.loop-i-test.false) ∙ c.loop-i.invariant.1
+returns c = let l = c.loop-b in sym (bytes_none c.args.s.now l.b-index l.digest c.loop-b-test.false) ∙ l.invariant.1

@@ -28,7 +28,7 @@ pub returns-then-not-w : goal.returns-then-not-w
 unfolding placed_in composed_by
 returns-then-not-w c =
     let a = c.args in
-    let w = c.write-w in
+    let w = c.written-w in
     placed_unfit (header a.offsets.now a.types.now) a.out.now w.new.out w.new.stack a.numbers.now w.result
     (written_of a.text.now a.roles.now a.numbers.now) c.requires.roles_in_bounds.2 w.auto.out w.ensures.result_after
     (not-true w.result.fits c.if-not-w.true)
@@ -37,7 +37,7 @@ pub returns-then-front-le-FRONT : goal.returns-then-front-le-FRONT
 unfolding placed_in composed_by
 returns-then-front-le-FRONT c =
     let a = c.args in
-    let w = c.write-w in
+    let w = c.written-w in
     placed_long (header a.offsets.now a.types.now) a.out.now w.new.out w.new.stack a.numbers.now w.result
     (written_of a.text.now a.roles.now a.numbers.now) c.requires.roles_in_bounds.2 w.auto.out w.ensures.result_after
     (not-false w.result.fits c.if-not-w.false) (omega (arith, w.ensures.place_in_bounds.0, w.auto.out)) c.if-front-le-FRONT.true
@@ -46,7 +46,7 @@ pub returns-then-not-p : goal.returns-then-not-p
 unfolding placed_in composed_by
 returns-then-not-p c =
     let a = c.args in
-    let w = c.write-w in
+    let w = c.written-w in
     let p = c.counted-p in
     let head = header a.offsets.now a.types.now in
     placed_bad head p.new.out w.new.stack a.numbers.now p.result (counted (written_of a.text.now a.roles.now a.numbers.now))
@@ -57,11 +57,11 @@ returns-then-not-p c =
 
 pub write_header-at-requires : goal.write_header-at-requires
 write_header-at-requires c =
-    let long : length c.counted-p.new.out ≡ output_size = c.counted-p.auto.out ∙ c.write-w.auto.out ∙ c.requires.roles_in_bounds.2 in
+    let long : length c.counted-p.new.out ≡ output_size = c.counted-p.auto.out ∙ c.written-w.auto.out ∙ c.requires.roles_in_bounds.2 in
     let near = c.counted-p.ensures.height_le_height.1 in
     let size = c.requires.roles_in_bounds.2 in (
       omega (arith, near.front, c.if-front-le-FRONT.false),
-      omega (arith, near.behind, c.write-w.ensures.place_in_bounds.0, long, size),
+      omega (arith, near.behind, c.written-w.ensures.place_in_bounds.0, long, size),
       c.requires.rows,
     )
 
@@ -69,7 +69,7 @@ pub returns-then-at-lt-FRONT : goal.returns-then-at-lt-FRONT
 unfolding placed_in composed_by
 returns-then-at-lt-FRONT c =
     let a = c.args in
-    let w = c.write-w in
+    let w = c.written-w in
     let p = c.counted-p in
     let h = c.write_header-at in
     let head = header a.offsets.now a.types.now in
@@ -83,7 +83,7 @@ pub returns : goal.returns
 unfolding placed_in composed_by
 returns c =
     let a = c.args in
-    let w = c.write-w in
+    let w = c.written-w in
     let p = c.counted-p in
     let h = c.write_header-at in
     let head = header a.offsets.now a.types.now in

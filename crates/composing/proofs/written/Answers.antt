@@ -18,13 +18,13 @@ took : {text roles numbers out₀ stack₀ out stack : List ℕ} {p : Pen} {i : 
 took out₁ stack₁ q v a b c d e f g = record { reached = a; more = b; near = c; same_out = d; same_stack = e; v = v; value = f; made = g }
 
 pub bounds-stack-0 : goal.bounds-stack-0
-bounds-stack-0 c = omega (arith, c.requires.roles_in_bounds.1)
+bounds-stack-0 c = omega (arith, c.requires.1)
 
 pub loop-i-init : goal.loop-i-init
 loop-i-init c =
     let args = c.args in
     reached_gap args.text.now args.roles.now args.numbers.now args.out.now (set args.stack.now 0 0) _ _ _ c.start-i.ensures
-    (reached_start args.text.now args.roles.now args.numbers.now args.out.now args.stack.now c.requires.roles_in_bounds.1 c.requires.roles_in_bounds.2)
+    (reached_start args.text.now args.roles.now args.numbers.now args.out.now args.stack.now c.requires.1 c.requires.2)
 
 pub overflow_sub-i : goal.overflow_sub-i
 overflow_sub-i c = omega (arith, c.loop-i-test.true)
@@ -34,14 +34,13 @@ bounds-roles-i c = omega (arith, c.loop-i-test.true, c.loop-i.invariant.inner)
 
 pub literal-requires : goal.literal-requires
 literal-requires c =
-    omega (arith, c.loop-i-test.true, c.loop-i.invariant.inner, c.requires.roles_in_bounds.0)
+    omega (arith, c.loop-i-test.true, c.loop-i.invariant.inner, c.requires.0)
 
 pub put-p-requires : goal.put-p-requires
 put-p-requires c =
     let inv = c.loop-i.invariant in
     let further = c.loop-i-test.true in
     record {
-      marks_value = c.requires.marks_value;
       margin_le_place = (inv.front, inv.behind, omega (arith, inv.low, inv.high, further));
       left_in_bounds = (inv.rest, omega (arith, inv.short, inv.inner, further));
     }

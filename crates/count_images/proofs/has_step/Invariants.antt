@@ -5,6 +5,3 @@ use Rattle.count_images.proofs.has_step.Given as goal
 abbrev pub invariant-loop-k : goal.invariant-loop-k
 invariant-loop-k l =
     (l.k ≤ l.structs) × (has_step l.spans l.name l.k (l.structs - l.k) ≡ has_step l.spans l.name 0 l.structs)
-
-abbrev pub decreases-loop-k : goal.decreases-loop-k
-decreases-loop-k l = l.structs - l.k

@@ -1,7 +1,8 @@
--- A turn of a loop that copies one list into another (02 §14).
+-- One list copied into another (02 §14).
 use Rattle.std.specs.Prelude.{ℕ, ◌+◌, ◌-◌, ◌<◌, ◌≤◌, ◌≡◌, List, [], ◌∷◌, ◌++◌, length, get_or, set, take, drop}
-use Rattle.std.proofs.Common.{arith, add-one, sym, ap, ◌∙◌, length-drop, length-take-le, take-suc}
-use Rattle.std.proofs.lemmas.List.Edits.{sets}
+use Rattle.std.proofs.Common.{arith, add-one, append_assoc, drop-drop, sym, ap, ◌∙◌, length-drop, length-take-le, take-suc}
+use Rattle.std.proofs.lemmas.List.Edits.{sets, sets-eq}
+use borrow.Rule.Slice.PartMut.{put_mid}
 use Rattle.types.proofs.Laws.ListLaws.{sets_whole}
 use Rattle.types.proofs.Laws.SetsLaws.{sets_append}
 
@@ -19,3 +20,9 @@ part_copied d s i n e h =
     let k : i + n - i ≡ n = omega arith in
     let w : length (take n (drop i s)) ≡ n = length-take-le n (drop i s) (omega (arith, length-drop i s, h)) in
     rw k (sets_whole d (take n (drop i s)) (w ∙ sym e))
+
+-- a list that is copied into its part
+pub written_mid : {A : Type 0} (d s u : List A) (k : ℕ) → k + length s ≤ length d → u ≡ s → put_mid k (k + length s - k) d u ≡ sets d k s
+written_mid d s u k h e =
+    let f : k + length s - k ≡ length s = omega arith in
+    rw (e, f, drop-drop) (sym (sets-eq s d k h ∙ append_assoc (take k d) s _))

@@ -1,5 +1,5 @@
 -- What one command leaves of memory as it was (02 §14): it writes in the rows of its actor and of the instance that it makes, and to one variable.
-use Rattle.std.specs.Prelude.{ℕ, suc, ◌-◌, ◌*◌, ◌%◌, ◌<◌, ◌≤◌, ◌≡◌, Bool, List, get_or, drop, eqb}
+use Rattle.std.specs.Prelude.{ℕ, suc, ◌-◌, ◌*◌, ◌%◌, ◌<◌, ◌≤◌, ◌≡◌, Bool, List, get_or, drop, eqb, Result, Ok, Err}
 use Rattle.std.proofs.Common.{arith, sym, subst, ◌∙◌}
 use Rattle.std.proofs.Math.Path.{refl}
 use Rattle.std.proofs.Math.Bool.{true, false}
@@ -8,14 +8,14 @@ use Rattle.std.proofs.Math.Seq.{sets, length-sets, get_or-set_other}
 use Rattle.std.proofs.Math.Dec.{ltb}
 use borrow.Author.Tests.{ltb-true, lt-ltb, eq-eqb, ne_eqb}
 use Rattle.types.specs.Limits.{max_instances, max_depth, max_params}
-use Rattle.operators.specs.declared.Answered.{Answered}
-use Rattle.operators.specs.declared.Answered.TheVariants.{Value, Outside, Unfit}
 use Rattle.layout.specs.Layout.{head_size, struct_of, height_of, next_of, row_size, variable, stacked, cell, operand, label_cell, new_head, head}
 use Rattle.layout.specs.State.{State, times, refused, of_head, of_cell, state_of}
 use Rattle.memory.specs.Act.{full, gone, pushed, height, after, top, beneath, do_push, do_this, do_not, do_if, answered, do_op, do_rd, stored, written, written_to, do_wr, made, do_cons, perform, next_word, turned, act}
 use Rattle.memory.specs.Fit.{WrFit, Needed, Fit}
 use Rattle.memory.proofs.Laws.RowLaws.{sets_other, going_other, going_length}
 use Rattle.counting.specs.Framed.{Framed, Fitting, fresh_row, wr_kind, place_of, stored_at}
+use Rattle.operators.specs.declared.OperatorError.{OperatorError}
+use Rattle.operators.specs.declared.OperatorError.TheVariants.{Outside, Unfit}
 
 -- whichever a test says
 pick : (t : Bool) (P : State → Type 0) {a b : State} → P a → P b → P (elim t [ true ↦ a | false ↦ b ])
@@ -66,11 +66,11 @@ module _ (counts : List ℕ) (l : ℕ) (z : State) (n r : ℕ) where
       (pick (ltb q (length counts)) (Framed z l n r) (gone_frames (height counts l z - 2) (after counts l z)) (timed (eqb (operand (of_cell z (variable q x))) (operand c)) (stored_frames q x c s)))
       (stored_frames q x c s)
 
-  answered_frames : (t : ℕ) (v : Answered) → height counts l z ≤ max_depth → Framed z l n r (answered counts l z t v)
+  answered_frames : (t : ℕ) (v : Result ℕ OperatorError) → height counts l z ≤ max_depth → Framed z l n r (answered counts l z t v)
   unfolding answered
-  answered_frames t (Value v) b = pushed_frames (height counts l z - 2) (cell t v) (after counts l z) (omega (arith, b))
-  answered_frames t Outside b = refusing _
-  answered_frames t Unfit b = same
+  answered_frames t (Ok v) b = pushed_frames (height counts l z - 2) (cell t v) (after counts l z) (omega (arith, b))
+  answered_frames t (Err Outside) b = refusing _
+  answered_frames t (Err Unfit) b = same
 
   -- a new instance is written to the row n, after the last
   made_frames : (k p : ℕ) → z.machine.count ≡ n → p ≤ max_params → height counts l z - p < max_depth → Framed z l n r (made counts l z k p)

@@ -1,6 +1,7 @@
 -- `below` meets its contract: one law for each act.
 use Rattle.std.proofs.Common.{refl, sym, ap, ◌∙◌, arith, length, length-set}
 use Rattle.derive.specs.HeldLaws.{below_none, below_go, below_open, below_below, below_stop}
+use mathlib.Core.Logic.{inl, inr}
 use Rattle.derive.proofs.below.Goals as goal
 
 pub returns-then-h-eq0 : goal.returns-then-h-eq0
@@ -8,7 +9,7 @@ returns-then-h-eq0 c =
     let args = c.args in record { kept = below_none args.k args.h args.stack.now args.stack.now c.if-h-eq0.true c.dead.ensures; height_le_h = (omega (arith, c.dead.ensures), refl) }
 
 pub act_at-requires : goal.act_at-requires
-act_at-requires c = let pre = c.requires in (pre.0, pre.1, c.index.ensures.0)
+act_at-requires c = c.index.ensures.0
 
 pub pushed-requires : goal.pushed-requires
 pushed-requires c = omega (arith, c.if-h-eq0.false)
@@ -30,8 +31,12 @@ returns-in-Open c =
 
 pub returns-in-Below : goal.returns-in-Below
 returns-in-Below c =
-    let args = c.args in record { kept = below_below args.k args.h args.stack.now c.if-h-eq0.false args.stack.now (sym c.in-Below.is ∙ c.act_at.ensures ∙ c.index.ensures.1) c.dead-in-Below.ensures; height_le_h = (omega (arith, c.dead-in-Below.ensures), refl) }
-
-pub returns-in-Stop : goal.returns-in-Stop
-returns-in-Stop c =
-    let args = c.args in record { kept = below_stop args.k args.h args.stack.now c.if-h-eq0.false args.stack.now (sym c.in-Stop.is ∙ c.act_at.ensures ∙ c.index.ensures.1) c.dead-in-Stop.ensures; height_le_h = (omega (arith, c.dead-in-Stop.ensures), refl) }
+    let args = c.args in
+    let some = c.if-h-eq0.false in
+    record {
+      kept = elim c.in-Below.is [
+        | inl e ↦ below_below args.k args.h args.stack.now some args.stack.now (sym e ∙ c.act_at.ensures ∙ c.index.ensures.1) c.dead-in-Below.ensures
+        | inr e ↦ below_stop args.k args.h args.stack.now some args.stack.now (sym e ∙ c.act_at.ensures ∙ c.index.ensures.1) c.dead-in-Below.ensures
+      ];
+      height_le_h = (omega (arith, c.dead-in-Below.ensures), refl);
+    }

@@ -1,16 +1,17 @@
 -- `ends` meets its contract.
-use Rattle.std.proofs.Common.{eq-eqb, ne_eqb}
+use Rattle.std.proofs.Common.{arith}
+use Rattle.std.proofs.lemmas.Grind.{common_steps}
 use Rattle.derive.specs.Held.{ends}
 use Rattle.derive.proofs.ends.Goals as goal
 
-pub returns-then-h-ne0 : goal.returns-then-h-ne0
+pub returns-in-30 : goal.returns-in-30
 unfolding ends
-returns-then-h-ne0 c = rw (ends, ne_eqb _ 0 c.if-h-ne0.true)
+returns-in-30 c = grind (arith, common_steps)
 
-pub returns-then-q-eq-BEHIND_EXECUTION : goal.returns-then-q-eq-BEHIND_EXECUTION
+pub returns-in_default : goal.returns-in_default
 unfolding ends
-returns-then-q-eq-BEHIND_EXECUTION c = rw (ends, eq-eqb _ 0 c.if-h-ne0.false, eq-eqb _ 30 c.if-q-eq-BEHIND_EXECUTION.true)
+returns-in_default c = grind (arith, common_steps)
 
-pub returns : goal.returns
+pub returns-else-h-eq0 : goal.returns-else-h-eq0
 unfolding ends
-returns c = rw (ends, eq-eqb _ 0 c.if-h-ne0.false, ne_eqb _ 30 c.if-q-eq-BEHIND_EXECUTION.false)
+returns-else-h-eq0 c = grind (arith, common_steps)

@@ -6,14 +6,14 @@ use Rattle.derive.specs.Table.{act_at, mark_at}
 use Rattle.derive.specs.IndexLaws.{index_in, index_row}
 use Rattle.derive.proofs.entry.Goals as goal
 
-pub returns-then-k-ge-COUNT : goal.returns-then-k-ge-COUNT
+pub returns-then-k-lt-COUNT : goal.returns-then-k-lt-COUNT
 unfolding act_at mark_at
-returns-then-k-ge-COUNT c =
+returns-then-k-lt-COUNT c =
     let args = c.args in
-    (omega arith, index_row act args.q args.k c.if-k-ge-COUNT.true, index_row mark args.q args.k c.if-k-ge-COUNT.true)
+    rw (c.from-row.ensures, c.from.ensures) (omega arith, index_in act args.q args.k c.if-k-lt-COUNT.true, index_in mark args.q args.k c.if-k-lt-COUNT.true)
 
-pub returns : goal.returns
+pub returns-else-k-lt-COUNT : goal.returns-else-k-lt-COUNT
 unfolding act_at mark_at
-returns c =
+returns-else-k-lt-COUNT c =
     let args = c.args in
-    (omega arith, index_in act args.q args.k c.if-k-ge-COUNT.false, index_in mark args.q args.k c.if-k-ge-COUNT.false)
+    rw c.from-row.ensures (omega arith, index_row act args.q args.k c.if-k-lt-COUNT.false, index_row mark args.q args.k c.if-k-lt-COUNT.false)

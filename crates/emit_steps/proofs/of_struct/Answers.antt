@@ -1,5 +1,5 @@
 -- `of_struct` meets its contract. The invariant: once the steps that are left are written, all are. The measure is how many are left.
-use Rattle.std.proofs.Common.{arith, [], ◌∷◌}
+use Rattle.std.proofs.Common.{◌+◌, ◌-◌, ◌≡◌, get_or, arith, [], ◌∷◌}
 use Rattle.program.specs.Reader.{read_step}
 use Rattle.commands.specs.ProgramWords.{step_words, steps_words}
 use Rattle.commands.proofs.ProgramWordsLaws.{no_steps, more_steps}
@@ -13,27 +13,22 @@ bounds-s-at c = (count_part _ _ _ c.requires.good).0
 pub overflow_add-z : goal.overflow_add-z
 overflow_add-z c = omega (arith, (count_part _ _ _ c.requires.good).0)
 
-pub loop-left-init : goal.loop-left-init
-loop-left-init c = let pre = c.requires in rest_all _ (part_ready (count_part _ _ _ pre.good).1 pre)
+pub loop-x-init : goal.loop-x-init
+loop-x-init c =
+    let whole : get_or c.args.s.now c.args.p.next 0 - 0 ≡ get_or c.args.s.now c.args.p.next 0 = omega arith in rw whole (let pre = c.requires in rest_all _ (part_ready (count_part _ _ _ pre.good).1 pre))
 
 pub step-z-requires : goal.step-z-requires
 step-z-requires c =
-    rest_ready steps_words step_words [] ◌∷◌ (read_step _ _) _ c.loop-left.invariant more_steps c.loop-left-test.true
+    rest_ready steps_words step_words [] ◌∷◌ (read_step _ _) _ c.loop-x.invariant more_steps (λ z. omega arith)
 
-pub overflow_sub-left : goal.overflow_sub-left
-overflow_sub-left c = omega (arith, c.loop-left-test.true)
-
-pub loop-left-smaller : goal.loop-left-smaller
-loop-left-smaller c = omega (arith, c.loop-left-test.true)
-
-pub loop-left-preserved : goal.loop-left-preserved
-loop-left-preserved c =
-    rest_next steps_words step_words [] ◌∷◌ (read_step _ _) _ c.loop-left.invariant more_steps c.loop-left-test.true c.step-z.ensures
+pub loop-x-preserved : goal.loop-x-preserved
+loop-x-preserved c =
+    let one : get_or c.args.s.now c.args.p.next 0 - (c.loop-x.x + 1) ≡ get_or c.args.s.now c.args.p.next 0 - c.loop-x.x - 1 = omega arith in rw one (rest_next steps_words step_words [] ◌∷◌ (read_step _ _) _ c.loop-x.invariant more_steps (λ z. omega arith) c.step-z.ensures)
 
 pub shape_of-list : goal.shape_of-list
-shape_of-list c = c.loop-left.invariant.kept
+shape_of-list c = c.loop-x.invariant.kept
 
 pub returns : goal.returns
 returns c =
     part_same (count_part _ _ _ c.requires.good).1
-    (rest_none steps_words step_words [] ◌∷◌ (read_step _ _) _ c.loop-left.invariant no_steps c.loop-left-test.false)
+    (rest_none steps_words step_words [] ◌∷◌ (read_step _ _) _ c.loop-x.invariant no_steps (omega arith))

@@ -15,20 +15,20 @@ byte_bit true = refl
 byte_bit false = refl
 
 pub overflow_mul-product : goal.overflow_mul-product
-overflow_mul-product c = fits_times c.args.numbers.stable c.in-Wrote.same (search rules)
+overflow_mul-product c = rw c.from.ensures (fits_times c.args.numbers.stable c.in-Ok-Wrote.same (search rules))
 
-pub returns-in-Kept : goal.returns-in-Kept
+pub returns-in-Ok-Kept : goal.returns-in-Ok-Kept
 unfolding answering
-returns-in-Kept c = λ h x. rw c.in-Kept.is
+returns-in-Ok-Kept c = λ h x. let e = rw c.in-Ok-Kept.is at c.in-Ok-Kept.field-0-is in rw (c.in-Ok-Kept.is, e)
 
-pub returns-in-Wrote : goal.returns-in-Wrote
+pub returns-in-Ok-Wrote : goal.returns-in-Ok-Wrote
 unfolding answering
-returns-in-Wrote c = λ h x. rw (c.in-Wrote.is, byte_bit c.in-Wrote.same)
+returns-in-Ok-Wrote c = λ h x. let e = rw c.in-Ok-Wrote.is at c.in-Ok-Wrote.field-0-is in rw (c.in-Ok-Wrote.is, e, c.from.ensures, byte_bit c.in-Ok-Wrote.same)
 
-pub returns-in-Made : goal.returns-in-Made
+pub returns-in-Ok-Made : goal.returns-in-Ok-Made
 unfolding answering
-returns-in-Made c = λ h x. rw (c.in-Made.is, add-one c.args.numbers.count)
+returns-in-Ok-Made c = λ h x. let e = rw c.in-Ok-Made.is at c.in-Ok-Made.field-0-is in rw (c.in-Ok-Made.is, e, add-one c.args.numbers.count)
 
-pub returns-in-Refused : goal.returns-in-Refused
+pub returns-in-Err : goal.returns-in-Err
 unfolding answering
-returns-in-Refused c = λ h x. rw c.in-Refused.is
+returns-in-Err c = λ h x. rw (c.in-Err.is, c.from-in-Err.ensures)

@@ -8,7 +8,7 @@ returns-then-holds c =
     let a = c.args in
     actor_holds a.heads.now a.l a.n (sym c.holds.ensures ∙ c.if-holds.true)
 
-pub returns : goal.returns
-returns c =
+pub returns-else-holds : goal.returns-else-holds
+returns-else-holds c =
     let a = c.args in
     actor_ended a.heads.now a.l a.n (sym c.holds.ensures ∙ c.if-holds.false)

@@ -6,8 +6,7 @@ use Rattle.layout.specs.State.{State}
 use Rattle.memory.specs.Act.{perform, do_push, do_this, do_rd, do_wr, do_cons, do_if, do_not, answered, do_op}
 use Rattle.memory.specs.Fit.{PushFit, ThisFit, RdFit, WrFit, ConsFit, TruthFit, OpFit, Needed}
 use Rattle.execute_stack.specs.declared.Actor.{Actor}
-use Rattle.execute_stack.specs.declared.Acted.{Acted}
-use Rattle.execute_stack.specs.Answers.{seen, Acting, topmost, second, DoesWith}
+use Rattle.execute_stack.specs.Answers.{Answer, seen, Acting, topmost, second, DoesWith}
 use Rattle.execute.specs.Ready.{memory}
 use Rattle.execute.specs.PerformWays.{acting, handed, needed_by, performs, last_kind}
 use Rattle.execute.proofs.perform.Goals as goal
@@ -26,7 +25,7 @@ needed : (c : After-operand-v) → (k : ℕ) → c.args.w % 256 ≡ k → Needed
 needed c = λ k e. let a = c.args in needed_by a.counts.now a.heads.now a.cells.now a.l a.count a.w k e c.operand-v.ensures.0 c.requires
 
 -- where f is the command of kind k, what does f does the command
-does : (c : After-operand-v) → (k : ℕ) → c.args.w % 256 ≡ k → (f : State → State) → ((z : State) → f z ≡ perform c.args.counts.now c.args.l z k c.args.w c.operand-v.result) → (r : Acted) (h' c' : List ℕ) → DoesWith c.args.count f r c.args.heads.now c.args.cells.now h' c' → DoesWith c.args.count (λ z. perform c.args.counts.now c.args.l z (c.args.w % 256) c.args.w (operand c.args.w)) r c.args.heads.now c.args.cells.now h' c'
+does : (c : After-operand-v) → (k : ℕ) → c.args.w % 256 ≡ k → (f : State → State) → ((z : State) → f z ≡ perform c.args.counts.now c.args.l z k c.args.w c.operand-v.result) → (r : Answer) (h' c' : List ℕ) → DoesWith c.args.count f r c.args.heads.now c.args.cells.now h' c' → DoesWith c.args.count (λ z. perform c.args.counts.now c.args.l z (c.args.w % 256) c.args.w (operand c.args.w)) r c.args.heads.now c.args.cells.now h' c'
 does c = λ k e. let a = c.args in performs a.counts.now a.heads.now a.cells.now a.l a.count a.w k e c.operand-v.ensures.0
 
 pub push-requires : goal.push-requires

@@ -38,7 +38,7 @@ returns-then-left-one c =
       | else-n-l w ↦ w.l-is ∙ sym (wrapped_here _ _ w.if-n-l.false)
     ] in
     sym (c.loop-passed.invariant.finds
-    ∙ at_found c.args.rs.now c.args.n c.loop-passed.passed c.loop-passed.l c.loop-passed.left c.if-n-l.l c.loop-passed-test.true is c.if-left-one.true)
+    ∙ at_found c.args.rs.now c.args.n c.loop-passed._passed c.loop-passed.l c.loop-passed.left c.if-n-l.l c.loop-passed-test.true is (rw c.from-one.ensures at c.if-left-one.true))
 
 pub loop-passed-preserved : goal.loop-passed-preserved
 loop-passed-preserved c =
@@ -49,8 +49,8 @@ loop-passed-preserved c =
     record {
       within = omega arith;
       finds =
-          c.loop-passed.invariant.finds
-          ∙ onward c.args.rs.now c.args.n c.loop-passed.passed c.loop-passed.l c.loop-passed.left c.if-n-l.l c.loop-passed-test.true is c.if-left-one.false;
+          rw c.from-one.ensures (c.loop-passed.invariant.finds
+          ∙ onward c.args.rs.now c.args.n c.loop-passed._passed c.loop-passed.l c.loop-passed.left c.if-n-l.l c.loop-passed-test.true is (rw c.from-one.ensures at c.if-left-one.false));
     }
 
 pub returns : goal.returns

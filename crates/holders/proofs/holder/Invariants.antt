@@ -6,9 +6,6 @@ use Rattle.holders.proofs.holder.Given as goal
 
 abbrev pub invariant-loop-passed : goal.invariant-loop-passed
 invariant-loop-passed l = record {
-  within : l.passed ≤ l.n;
-  finds : holder_in l.rs l.n l.from l.r ≡ search l.rs l.n (l.n - l.passed) l.l l.left;
+  within : l._passed ≤ l.n;
+  finds : holder_in l.rs l.n l.from l.r ≡ search l.rs l.n (l.n - l._passed) l.l l.left;
 }
-
-abbrev pub decreases-loop-passed : goal.decreases-loop-passed
-decreases-loop-passed l = l.n - l.passed

@@ -1,6 +1,6 @@
 -- The ways through the turns of a passage (01, 'Table and turns'): from s₀ with memory h₀ and c₀, the turns so far have led to s with h, c and
 -- the records rs.
-use Rattle.std.specs.Prelude.{ℕ, suc, ◌+◌, ◌-◌, ◌%◌, ◌<◌, ◌≤◌, ◌≡◌, refl, Bool, true, false, List, length, get_or, set, eqb, leb}
+use Rattle.std.specs.Prelude.{ℕ, suc, ◌+◌, ◌-◌, ◌%◌, ◌<◌, ◌≤◌, ◌≡◌, refl, Bool, true, false, List, length, get_or, set, eqb, leb, Some}
 use Rattle.std.proofs.Common.{ap, sym, ◌∙◌, subst, true≢false, arith}
 use Rattle.std.proofs.lemmas.Bool.{false≢true}
 use borrow.Author.Tests.{eq-eqb, ne_eqb, eqb-true, eqb-false, le-leb, lt-leb, leb-true, leb-false}
@@ -22,7 +22,7 @@ use Rattle.interpreter.specs.Running.{Turned, Turned.turned, Turned.failed, Begu
 use Rattle.interpreter.specs.Laws.TurnLaws.{picked_fits, turned_by}
 use Rattle.interpreter.specs.Laws.RunningLaws.{number_some, ends_lasting, ends_failed, taken_turn, runs_held}
 use Rattle.interpreter.specs.Laws.RecordLaws.{records_behind}
-use Rattle.interpreter.specs.Going.{rests, waits, going_at, behind, Takes, memory_of, searched, Turning, Went, Passes}
+use Rattle.interpreter.specs.Going.{rests, waits, going_at, behind, Takes, is_due, memory_of, searched, Turning, Went, Passes}
 
 -- The cases of a definition ----------------------------------------------------------
 
@@ -101,24 +101,28 @@ module _ {counts list items spans : List ℕ} {z : State} (g : Begun counts list
 
 -- what is left of them: a number that falls with each turn
 abbrev pub turns_left : List ℕ → Going → ℕ
-turns_left es s = elim s.due [ true ↦ suc (length es - s.taken) | false ↦ 0 ]
+turns_left es s = elim (is_due s) [ true ↦ suc (length es - s.taken) | false ↦ 0 ]
+
+-- a byte that picks is that of a turn that is due
+pub picks_due : (s : Going) {r : ℕ} → s.pick ≡ Some r → is_due s ≡ true
+picks_due s e = rw e
 
 -- a turn more was taken
-pub fewer_left : (es : List ℕ) (r s : Going) → s.due ≡ true → s.taken < length es → s.taken < r.taken → turns_left es r < turns_left es s
-fewer_left es r s d h k = rw d (go r.due)
+pub fewer_left : (es : List ℕ) (r s : Going) → is_due s ≡ true → s.taken < length es → s.taken < r.taken → turns_left es r < turns_left es s
+fewer_left es r s d h k = rw (d, turns_left) (go (is_due r))
   where
     go : (t : Bool) → elim t [ true ↦ suc (length es - r.taken) | false ↦ 0 ] < suc (length es - s.taken)
     go true = omega arith
     go false = omega arith
 
 pub record Kept (list counts es : List ℕ) (s₀ : Going) (h₀ c₀ : List ℕ) (s : Going) (rs : List Record) (h c : List ℕ) : Type 0 where
-  pub ready : s.due ≡ true → Turning list counts es s rs h c
+  pub ready : is_due s ≡ true → Turning list counts es s rs h c
   pub since : s₀.taken ≤ s.taken
   pub within : s.taken ≤ length es
-  pub more : s.due ≡ false → s.number ≡ 0 → s₀.taken < s.taken
-  pub gone : s.due ≡ true → (items spans : List ℕ) (z : State) → Gone counts list items spans es z s₀.taken (memory_of s₀ h₀ c₀)
+  pub more : is_due s ≡ false → s.number ≡ 0 → s₀.taken < s.taken
+  pub gone : is_due s ≡ true → (items spans : List ℕ) (z : State) → Gone counts list items spans es z s₀.taken (memory_of s₀ h₀ c₀)
       → Gone counts list items spans es z s.taken (memory_of s h c)
-  pub went : s.due ≡ false → (items spans : List ℕ) (z : State) → Gone counts list items spans es z s₀.taken (memory_of s₀ h₀ c₀)
+  pub went : is_due s ≡ false → (items spans : List ℕ) (z : State) → Gone counts list items spans es z s₀.taken (memory_of s₀ h₀ c₀)
       → Went counts list items spans es z s (memory_of s h c)
 
 module _ {list counts es : List ℕ} {s₀ : Going} {h₀ c₀ : List ℕ} where
@@ -130,23 +134,26 @@ module _ {list counts es : List ℕ} {s₀ : Going} {h₀ c₀ : List ℕ} where
         ready = λ d. t;
         since = omega arith;
         within = omega arith;
-        more = λ d. absurd (true≢false (sym t.due.now ∙ d));
+        more = λ d. absurd (true≢false (sym (picks_due s₀ t.due.picks) ∙ d));
         gone = λ d items spans z g. g;
-        went = λ d. absurd (true≢false (sym t.due.now ∙ d));
+        went = λ d. absurd (true≢false (sym (picks_due s₀ t.due.picks) ∙ d));
       }
 
   module _ {s : Going} {rs : List Record} {h c : List ℕ} (kept : Kept list counts es s₀ h₀ c₀ s rs h c) where
     -- no turn is due
-    pub kept_done : s.due ≡ false → Passes list counts es s₀ h₀ c₀ s h c
+    pub kept_done : is_due s ≡ false → Passes list counts es s₀ h₀ c₀ s h c
     kept_done d = record { rest = d; more = kept.more d; within = kept.within; went = kept.went d }
 
     -- The search has found instance l ------------------------------------------------
 
     -- as many records as instances, and more
-    pub kept_few : s.due ≡ true → s.machine.numbers.count ≤ length rs
+    pub kept_few : is_due s ≡ true → s.machine.numbers.count ≤ length rs
     kept_few d = let t = kept.ready d in let a = t.begun.ready.stands.few in let b = t.recorded.long in omega arith
 
-    module _ (d : s.due ≡ true) {l : ℕ} (found : l ≡ searched s rs) where
+    module _ {r₀ : ℕ} (p₀ : s.pick ≡ Some r₀) {l : ℕ} (found : l ≡ searched s r₀ rs) where
+      d : is_due s ≡ true
+      d = picks_due s p₀
+
       abbrev t₀ : Turning list counts es s rs h c
       t₀ = kept.ready d
 
@@ -163,7 +170,9 @@ module _ {list counts es : List ℕ} {s₀ : Going} {h₀ c₀ : List ℕ} where
       is_picked : l ≡ picked h s.machine.numbers.from s.machine.numbers.count byte
       is_picked =
           let kept = t₀.begun.ready.kept in
-          found ∙ ap (holder_in rs s.machine.numbers.count s.machine.numbers.from) (t₀.due.picks ∙ ap (λ (n : ℕ). byte % n) kept)
+          let e : Some r₀ ≡ Some (byte % s.machine.numbers.holding) = sym p₀ ∙ t₀.due.picks in
+          let q : r₀ ≡ byte % s.machine.numbers.holding = cc in
+          found ∙ ap (holder_in rs s.machine.numbers.count s.machine.numbers.from) (q ∙ ap (λ (n : ℕ). byte % n) kept)
           ∙ sym (picked_in h t₀.recorded s.machine.numbers.from byte (rw kept at t₀.due.someone))
 
       -- what its turn needs
@@ -253,7 +262,7 @@ module _ {list counts es : List ℕ} {s₀ : Going} {h₀ c₀ : List ℕ} where
                     items = t₀.items;
                     spans = t₀.spans;
                     begun = behind_it.begun;
-                    due = record { now = refl; someone = n; byte = q; picks = refl };
+                    due = record { someone = n; byte = q; picks = refl };
                     recorded = behind_it.recorded;
                   };
                   since = omega arith;
@@ -306,4 +315,4 @@ module _ {list counts es : List ℕ} {s₀ : Going} {h₀ c₀ : List ℕ} where
           go false t =
               let e = eqb-false k.machine.numbers.number 0 t in
               let w = k.goes ∙ behind_refused es s k.machine (holds h' l) e in
-              rw (w, d) (omega arith)
+              rw (w, d, turns_left) (omega arith)

@@ -15,13 +15,13 @@ use Rattle.interpreter.specs.declared.turns.Going.{Going}
 use Rattle.interpreter.specs.Ready.{Ready}
 use Rattle.interpreter.specs.Running.{Begun, Standing, Settling, Ending, Gone}
 use Rattle.interpreter.specs.Laws.RunningLaws.{ready_rows, runs_none, still_running, ends_over, ends_lasting, runs_settled}
-use Rattle.interpreter.specs.Going.{going_at, Due, memory_of, Turning, Went, Passes}
+use Rattle.interpreter.specs.Going.{going_at, Due, is_due, memory_of, Turning, Went, Passes}
 use Rattle.interpreter.specs.Laws.GoingLaws.{turns_left, fewer_left, at_nobody, at_last, at_turn, going_taken}
 
 -- a run from memory z has come to s: a turn is due, or the run is over
 pub record Stays (counts list items spans es : List ℕ) (z : State) (s : Going) (y : State) : Type 0 where
-  pub due : s.due ≡ true → Gone counts list items spans es z s.taken y × Due es s
-  pub over : s.due ≡ false → Ending counts list items spans es z s.number s.taken y
+  pub due : is_due s ≡ true → Gone counts list items spans es z s.taken y × Due es s
+  pub over : is_due s ≡ false → Ending counts list items spans es z s.number s.taken y
 
 -- the numbers and heads where a run begins stand by themselves
 pub begun_standing : {counts list items spans h c : List ℕ} {n : Numbers} → Begun counts list items spans (state_of n h c) → Standing items spans h n
@@ -50,7 +50,7 @@ module _ {counts list items spans es : List ℕ} {z₀ : State} where
           let e = eqb-false m.numbers.holding 0 t in
           let q = leb-false (length es) i v in
           subst Here (sym (w ∙ at_turn es m i a (omega arith) q))
-          (record { due = λ d. (g, record { now = refl; someone = omega arith; byte = q; picks = refl }); over = λ d. absurd (true≢false d) })
+          (record { due = λ d. (g, record { someone = omega arith; byte = q; picks = refl }); over = λ d. absurd (true≢false d) })
 
   -- where the moves before the first turn have led, and the loop from there on
   pub stays_on : {m : Engine} {h c : List ℕ} → Settling items spans z₀ (state_of m.numbers h c)
@@ -60,7 +60,7 @@ module _ {counts list items spans es : List ℕ} {z₀ : State} where
       → Stays counts list items spans es z₀ s y
   stays_on g a e inv = inv z₀ (stays_at a e (λ p m r. runs_none (g p counts list m r)) (omega arith))
 
-  module _ {s : Going} {h c : List ℕ} (stays : Stays counts list items spans es z₀ s (memory_of s h c)) (d : s.due ≡ true) where
+  module _ {s : Going} {h c : List ℕ} (stays : Stays counts list items spans es z₀ s (memory_of s h c)) (d : is_due s ≡ true) where
     -- A passage of turns --------------------------------------------------------------
 
     module _ {r : Going} {h' c' : List ℕ} (passes : Passes list counts es s h c r h' c') where
@@ -72,7 +72,7 @@ module _ {counts list items spans es : List ℕ} {z₀ : State} where
       passed_over e = record { due = λ w. absurd (true≢false (sym w ∙ passes.rest)); over = λ w. went.over e }
 
       pub passed_over_less : turns_left es r < turns_left es s
-      passed_over_less = rw (passes.rest, d) (omega arith)
+      passed_over_less = rw (passes.rest, d, turns_left) (omega arith)
 
       -- nobody holds commands, and the schedule moves
       module _ (e : r.number ≡ 0) (m : Engine) (a : Record) {x : Going} (w : x ≡ going_at es m r.taken a) where

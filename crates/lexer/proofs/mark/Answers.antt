@@ -1,43 +1,43 @@
--- `mark` meets its contract. The loop's invariant: what is behind leads to the answer and to the marks of the whole. The measure is what is left.
-use Rattle.std.proofs.Common.{◌+◌, ◌≤◌, refl, sym, ◌∙◌, arith, length}
-use Rattle.tokens.proofs.Laws.MarkingLaws.{reached_end, reached_stray, reached_next, ends_inside}
+-- `mark` meets its contract. The loop's invariant: what is left leads to the answer and to the marks of the whole. The measure is what is left.
+use Rattle.std.proofs.Common.{refl, sym, ◌∙◌, arith}
+use Rattle.tokens.proofs.Laws.MarkingLaws.{reached_out, reached_next, ends_inside}
+use Rattle.lexer.specs.FrontSpots.{rest_spot}
 use Rattle.lexer.proofs.mark.Goals as goal
 
-pub loop-i-init : goal.loop-i-init
-loop-i-init c =
+pub loop-kind-init : goal.loop-kind-init
+loop-kind-init c =
     record { inner = omega arith; kept = refl; answer = refl; written = refl; clear = c.requires.1.zeros }
 
+pub slice_bounds-token-count : goal.slice_bounds-token-count
+slice_bounds-token-count c = c.loop-kind.invariant.inner
+
 pub bounds-kinds-i : goal.bounds-kinds-i
-bounds-kinds-i c = omega (arith, c.loop-i.invariant.kept, c.loop-i-test.true, c.requires.0)
+bounds-kinds-i c =
+    omega (
+      arith,
+      c.loop-kind.invariant.kept,
+      c.requires.0,
+      ends_inside c.loop-kind.invariant (rest_spot c.args.text.now c.loop-kind.i (sym c.in-Some.is ∙ c.token.ensures)),
+    )
 
 pub overflow_add-i : goal.overflow_add-i
-overflow_add-i c =
-    let inside' : c.loop-i.i + (c.in-Marked.n + 1) ≤ length c.args.text.now = ends_inside c.loop-i.invariant (sym c.in-Marked.is ∙ c.token.ensures) in
-    omega (arith, inside')
+overflow_add-i c = omega (arith, ends_inside c.loop-kind.invariant (rest_spot c.args.text.now c.loop-kind.i (sym c.in-Some.is ∙ c.token.ensures)))
 
-pub overflow_add-i-in-Marked : goal.overflow_add-i-in-Marked
-overflow_add-i-in-Marked c =
-    let inside' : c.loop-i.i + (c.in-Marked.n + 1) ≤ length c.args.text.now = ends_inside c.loop-i.invariant (sym c.in-Marked.is ∙ c.token.ensures) in
-    omega (arith, inside')
+pub overflow_add-i-in-Some : goal.overflow_add-i-in-Some
+overflow_add-i-in-Some c =
+    omega (arith, ends_inside c.loop-kind.invariant (rest_spot c.args.text.now c.loop-kind.i (sym c.in-Some.is ∙ c.token.ensures)))
 
-pub loop-i-smaller : goal.loop-i-smaller
-loop-i-smaller c =
-    let inside' : c.loop-i.i + (c.in-Marked.n + 1) ≤ length c.args.text.now = ends_inside c.loop-i.invariant (sym c.in-Marked.is ∙ c.token.ensures) in
-    omega (arith, inside')
+pub loop-kind-smaller : goal.loop-kind-smaller
+loop-kind-smaller c = omega (arith, ends_inside c.loop-kind.invariant (rest_spot c.args.text.now c.loop-kind.i (sym c.in-Some.is ∙ c.token.ensures)))
 
-pub loop-i-preserved : goal.loop-i-preserved
-loop-i-preserved c = reached_next c.loop-i.invariant (sym c.in-Marked.is ∙ c.token.ensures) c.requires.0
+pub loop-kind-preserved : goal.loop-kind-preserved
+loop-kind-preserved c =
+    reached_next c.loop-kind.invariant (rest_spot c.args.text.now c.loop-kind.i (sym c.in-Some.is ∙ c.token.ensures)) c.requires.0
 
-pub shape_of-kinds-in-Stray : goal.shape_of-kinds-in-Stray
-shape_of-kinds-in-Stray c = c.loop-i.invariant.kept
+pub returns-clause-value : goal.returns-clause-value
+returns-clause-value c =
+    (reached_out c.loop-kind.invariant (rest_spot c.args.text.now c.loop-kind.i (sym c.in_default.is ∙ c.token.ensures))).0
 
-pub returns-in-Stray : goal.returns-in-Stray
-returns-in-Stray c =
-    let both = reached_stray c.loop-i.invariant c.loop-i-test.true (sym c.in-Stray.is ∙ c.token.ensures) in record { value = both.0; kinds_after = both.1 }
-
-pub shape_of-kinds : goal.shape_of-kinds
-shape_of-kinds c = c.loop-i.invariant.kept
-
-pub returns : goal.returns
-returns c =
-    let both = reached_end c.loop-i.invariant c.loop-i-test.false in record { value = both.0; kinds_after = both.1 }
+pub returns-clause-kinds_after : goal.returns-clause-kinds_after
+returns-clause-kinds_after c =
+    (reached_out c.loop-kind.invariant (rest_spot c.args.text.now c.loop-kind.i (sym c.in_default.is ∙ c.token.ensures))).1

@@ -1,21 +1,21 @@
 -- `name` meets its contract.
-use Rattle.std.proofs.Common.{arith}
-use Rattle.lexer.specs.SpotLaws.{name_spot}
+use Rattle.std.proofs.Common.{arith, ap, sym, ◌∙◌, drop, length-drop, length-take-le}
+use Rattle.std.proofs.lemmas.List.{take_rest}
+use Rattle.std.proofs.lemmas.List.Sums.{prefix_len-le-length}
+use Rattle.tokens.specs.Kinds.{kind}
+use Rattle.std.specs.List.{prefix_len}
+use Rattle.tokens.specs.Scanning.{named}
+use Rattle.tokens.specs.Tokens.{name_byte}
+use Rattle.lexer.specs.FrontSpots.{name_spot, take_first}
 use Rattle.lexer.proofs.name.Goals as goal
 
-pub slice_bounds-kind-count : goal.slice_bounds-kind-count
-slice_bounds-kind-count c = omega (arith, c.name_end-end.ensures.value)
-
-pub slice_bounds-kind-start : goal.slice_bounds-kind-start
-slice_bounds-kind-start c = omega (arith, c.name_end-end.ensures.value)
+pub overflow_add-more : goal.overflow_add-more
+overflow_add-more c = omega (arith, c.names-more.ensures ∙ ap (prefix_len name_byte) (take_rest _ 1), prefix_len-le-length name_byte (drop 1 c.args.text.now), length-drop 1 c.args.text.now)
 
 pub slice_bounds-kind-end : goal.slice_bounds-kind-end
-slice_bounds-kind-end c = omega (arith, c.name_end-end.ensures.upper_bound)
-
-pub overflow_sub-result : goal.overflow_sub-result
-overflow_sub-result c = omega (arith, c.name_end-end.ensures.value)
+slice_bounds-kind-end c = sym (length-take-le _ _ (omega (arith, c.requires, c.names-more.ensures ∙ ap (prefix_len name_byte) (take_rest _ 1), prefix_len-le-length name_byte (drop 1 c.args.text.now), length-drop 1 c.args.text.now)))
 
 pub returns : goal.returns
 returns c =
-    name_spot c.args.text.now c.args.at
-    c.name_end-end.result c.kind-kind.result (omega arith) c.name_end-end.ensures.value c.kind-kind.ensures
+    name_spot _ _ _ _ (c.names-more.ensures ∙ ap (prefix_len name_byte) (take_rest _ 1))
+    (c.kind.ensures ∙ ap (λ s. kind (named s)) (take_first _ _ c.requires))

@@ -1,5 +1,5 @@
 -- The next command of an instance fits memory that holds a machine with the invariant (01, 'The words of demand 3').
-use Rattle.std.specs.Prelude.{ℕ, suc, ◌+◌, ◌-◌, ◌%◌, ◌<◌, ◌≤◌, ◌≡◌, Bool, true, false, List, ◌∷◌, ◌++◌, reverse, length, get_or}
+use Rattle.std.specs.Prelude.{ℕ, suc, ◌+◌, ◌-◌, ◌%◌, ◌<◌, ◌≤◌, ◌≡◌, Bool, true, false, List, ◌∷◌, ◌++◌, reverse, length, get_or, Ok}
 use Rattle.std.proofs.Common.{arith, ap, sym, ◌∙◌, subst, length-append}
 use Rattle.std.proofs.Math.Option.{some}
 use Rattle.std.proofs.Math.ListN.{get_elem?}
@@ -16,7 +16,6 @@ use Rattle.commands.specs.Noted.{Note, Note.n_push, Note.n_this, Note.n_not, Not
 use Rattle.operators.specs.Apply.{Answer, Answer.value, Answer.outside, Answer.unfit, apply}
 use Rattle.operators.specs.Ranges.{Of as Range, Of.of_int, Of.of_nat, Of.of_bool, Fits as Answers}
 use Rattle.operators.proofs.Laws.RangesLaws.{apply_fits}
-use Rattle.operators.specs.declared.Answered.TheVariants.{Value}
 use Rattle.operators.specs.Words.{apply_word, answered}
 use Rattle.machine.specs.Published.{Sched, structs, arity}
 use Rattle.machine.specs.Machine.{Tagged, Instance, Machine}
@@ -54,7 +53,7 @@ result_below arith_int (of_int {z = x} h) = word_below int (int_val x) h
 result_below arith_nat (of_nat {n = n} h) = word_below nat (nat_val n) h
 result_below logic_bool (of_bool {t = b}) = word_below bool (bool_val b) tt
 
-answer_below : {s : Sort} {t u : Ty} → Takes s t u → (w : Answer) → Answers u w → (v : ℕ) → answered w ≡ Value v → v < nat_end
+answer_below : {s : Sort} {t u : Ty} → Takes s t u → (w : Answer) → Answers u w → (v : ℕ) → answered w ≡ Ok v → v < nat_end
 unfolding answered
 answer_below k (value x) a v e = let q : word x ≡ v = cc in rw (← q) (result_below k a)
 answer_below k outside a v e = let z : ◌≡◌ {A = ℕ} 0 1 = cc in absurd (omega arith)

@@ -1,14 +1,10 @@
--- `last_end` meets its contract.
-use Rattle.std.proofs.Common.{arith}
-use Rattle.text.specs.ListingLaws.{placed_none}
 use Rattle.number_lines.specs.Lines.{last_end}
 use Rattle.number_lines.proofs.last_end.Goals as goal
 
-pub returns-then-begin : goal.returns-then-begin
+pub returns-then-begin-clause-text : goal.returns-then-begin-clause-text
 unfolding last_end
-returns-then-begin c = record { placed = rw c.if-begin.true (placed_none _ _); upper_bound = omega arith }
+returns-then-begin-clause-text c = rw c.if-begin.true
 
-pub returns : goal.returns
+pub returns-else-begin-clause-text : goal.returns-else-begin-clause-text
 unfolding last_end
-returns c =
-    record { placed = rw c.if-begin.false c.put.ensures; upper_bound = omega (arith, c.put.ensures.end) }
+returns-else-begin-clause-text c = rw c.if-begin.false

@@ -7,4 +7,5 @@ use Rattle.number_lines.proofs.word.Goals as goal
 pub returns : goal.returns
 unfolding word_text
 returns c =
-    record { placed = placed_on c.separator-a.ensures.placed (placed_on c.sign-b.ensures.placed c.decimal.ensures.placed); upper_bound = omega (arith, c.separator-a.ensures.upper_bound, c.sign-b.ensures.upper_bound, c.decimal.ensures.upper_bound) }
+    let p = rw c.separator.ensures.text at c.put-a.ensures in let q = rw c.sign.ensures.text at c.put-b.ensures in
+    record { placed = placed_on p (placed_on q c.decimal.ensures.placed); upper_bound = omega (arith, c.separator.ensures.short, c.sign.ensures.short, c.put-a.ensures.end, c.put-b.ensures.end, c.decimal.ensures.upper_bound) }

@@ -1,48 +1,35 @@
--- `numbers::scan` meets its contract. The loop's invariant: the bytes left lead to the answer and the words of the whole. The measure is what is left.
-use Rattle.std.proofs.Common.{ℕ, ◌≡◌, ◌∙◌, sym, ap, refl, arith}
-use Rattle.numbers.specs.Scan.{go_on}
-use Rattle.numbers.specs.ScanLaws.{reached_end, reached_next, reached_stop}
+use Rattle.std.proofs.Common.{arith, refl, ◌≡◌, length}
+use Rattle.std.proofs.lemmas.Result.{err_from_is_err_and}
+use Rattle.numbers.specs.ScanLaws.{ended_byte, ended_line, line_read, reached_next, reached_stop, reached_all}
 use Rattle.numbers.proofs.scan.Goals as goal
 
-pub loop-i-init : goal.loop-i-init
-loop-i-init c = record { within = omega arith; kept = refl; answer = refl; written = refl }
+pub returns-in_err-next : goal.returns-in_err-next
+returns-in_err-next c =
+    let p = err_from_is_err_and c.from_residual.result c.from_residual.ensures.1 in
+    let i = c.loop-i.i in
+    let both = reached_stop c.loop-i.invariant.0 (omega (arith, c.loop-i-test.true)) (ended_byte c.args.text.now i c.loop-i-test.true) c.from.ensures
+    c.in_err-next.ensures.value c.in_err-next.ensures.out_after in
+    record { value = rw (p.1, p.2) both.0; bound = rw p.1 tt; out_after = both.1 }
 
 pub loop-i-preserved : goal.loop-i-preserved
 loop-i-preserved c =
-    reached_next c.loop-i.invariant c.loop-i-test.true
-    (c.byte_at.ensures c.loop-i-test.true) c.char_of.ensures
-    (sym c.in-Next.is ∙ c.turned.ensures.value) c.turned.ensures.out_after c.turned.auto.out
+    let i = c.loop-i.i in
+    let r = reached_next c.loop-i.invariant.0 (omega (arith, c.loop-i-test.true)) (ended_byte c.args.text.now i c.loop-i-test.true) c.from.ensures
+    c.in_ok-next.ensures.value c.in_ok-next.ensures.out_after c.turned.auto.out in
+    (r, omega (arith, c.in_ok-next.ensures.bound, c.loop-i.invariant.0.kept))
 
-pub returns-in-Strange : goal.returns-in-Strange
-unfolding go_on
-returns-in-Strange c =
-    let r = sym c.in-Strange.is ∙ c.turned.ensures.value in
-    let both = reached_stop c.loop-i.invariant c.loop-i-test.true
-    (c.byte_at.ensures c.loop-i-test.true) c.char_of.ensures
-    (λ u m g. let f = g ∙ sym r in let z : ◌≡◌ {A = ℕ} 0 1 = cc in omega arith)
-    (λ rest. ap (λ v. go_on c.loop-i.i v rest) r) c.turned.ensures.out_after in
-    record { value = both.0; out_after = both.1 }
-
-pub returns-in-Large : goal.returns-in-Large
-unfolding go_on
-returns-in-Large c =
-    let r = sym c.in-Large.is ∙ c.turned.ensures.value in
-    let both = reached_stop c.loop-i.invariant c.loop-i-test.true
-    (c.byte_at.ensures c.loop-i-test.true) c.char_of.ensures
-    (λ u m g. let f = g ∙ sym r in let z : ◌≡◌ {A = ℕ} 0 1 = cc in omega arith)
-    (λ rest. ap (λ v. go_on c.loop-i.i v rest) r) c.turned.ensures.out_after in
-    record { value = both.0; out_after = both.1 }
-
-pub returns-in-Full : goal.returns-in-Full
-unfolding go_on
-returns-in-Full c =
-    let r = sym c.in-Full.is ∙ c.turned.ensures.value in
-    let both = reached_stop c.loop-i.invariant c.loop-i-test.true
-    (c.byte_at.ensures c.loop-i-test.true) c.char_of.ensures
-    (λ u m g. let f = g ∙ sym r in let z : ◌≡◌ {A = ℕ} 0 1 = cc in omega arith)
-    (λ rest. ap (λ v. go_on c.loop-i.i v rest) r) c.turned.ensures.out_after in
-    record { value = both.0; out_after = both.1 }
+pub returns-in_err-count : goal.returns-in_err-count
+returns-in_err-count c =
+    let p = err_from_is_err_and c.from_residual-in_err-count.result c.from_residual-in_err-count.ensures.1 in
+    let r = c.loop-i.invariant.0 in
+    let e : c.loop-i.i ≡ length c.args.text.now = omega (arith, c.loop-i-test.false, c.loop-i.auto.i-end) in
+    let both = reached_stop (rw e at r) (omega arith) (ended_line c.args.text.now (length c.args.text.now) refl) line_read
+    c.in_err-count.ensures.value c.in_err-count.ensures.out_after in
+    record { value = rw (p.1, p.2) both.0; bound = rw p.1 tt; out_after = both.1 }
 
 pub returns : goal.returns
 returns c =
-    let both = reached_end c.loop-i.invariant c.loop-i-test.false in record { value = both.0; out_after = both.1 }
+    let r = c.loop-i.invariant.0 in
+    let e : c.loop-i.i ≡ length c.args.text.now = omega (arith, c.loop-i-test.false, c.loop-i.auto.i-end) in
+    let both = reached_all (rw e at r) refl c.in_ok-count.ensures.value c.in_ok-count.ensures.out_after c.turned-2.auto.out in
+    record { value = both.0; bound = omega (arith, c.in_ok-count.ensures.bound, r.kept); out_after = both.1 }

@@ -1,17 +1,17 @@
 -- A word to the Int that it is in two's complement, and a whole number back to a word, or to number 35, as the code's tests tell (01, 'Program stream').
-use Rattle.std.specs.Prelude.{ℕ, suc, ◌-◌, ◌<◌, ◌≤◌, ◌≡◌, refl, true, false, T, nat_abs, ℤ, pos, negsuc, ◌+ℤ◌, ◌-ℤ◌}
-use Rattle.std.proofs.Common.{arith, le_of_lt, sym, ◌∙◌, true≢false, Fits, SFits, to_z, ltb-true, ltb-false, lt-ltb, le-ltb}
-use Rattle.std.proofs.lemmas.Bool.{false≢true}
+use Rattle.std.specs.Prelude.{ℕ, suc, ◌-◌, ◌<◌, ◌≤◌, ◌≡◌, refl, Bool, true, false, ltb, ℤ, pos, negsuc, ◌+ℤ◌, ◌-ℤ◌, ◌*ℤ◌, Ok, Err}
+use Rattle.std.proofs.Common.{arith, le_of_lt, ap, ◌∙◌, SFits, to_z, of_z, ltb-true, lt-ltb, le-ltb}
+use Rattle.std.proofs.lemmas.Bool.{false_from_ne_true}
 use Rattle.std.proofs.Math.Option.{some}
-use Rattle.std.specs.Int.Signed.{mag, lt_z, non_neg}
+use Rattle.std.specs.Int.Signed.{mag}
 use Rattle.std.specs.Int.{w32, w64}
-use Rattle.std.proofs.lemmas.Int.{to_z-of_z, to_z_pos}
+use Rattle.std.proofs.lemmas.Int.{to_z-of_z}
 use Rattle.types.specs.Limits.{int_half, nat_end}
 use Rattle.types.specs.Values.{in_int, int_word, word_int, word}
 use Rattle.operators.specs.Apply.{int_answer}
-use Rattle.operators.proofs.Laws.SignedLaws.{through, back}
+use Rattle.operators.proofs.Laws.SignedLaws.{through, back, sum_carries, difference_carries, product_carries}
 use Rattle.operators.specs.Words.{answered, IntOf}
-use Rattle.operators.specs.declared.Answered.TheVariants.{Value, Outside}
+use Rattle.operators.specs.declared.OperatorError.TheVariants.{Outside}
 
 -- a word to an Int --------------------------------------------------------------
 
@@ -24,23 +24,20 @@ pub word_high : (a : ℕ) → int_half ≤ a → word_int a ≡ negsuc (nat_end 
 unfolding word_int
 word_high a h = rw (le-ltb a int_half h, word_int)
 
--- A word below 2147483648 is read as it stands.
-pub int_of_low : (a : ℕ) → a < int_half → IntOf a (to_z w64 a)
-int_of_low a h = rw (to_z_pos w64 a (omega arith)) (record { is = sym (word_low a h); small = h })
+-- Its bits are read so.
+pub word_signed : (a : ℕ) → to_z w32 a ≡ word_int a
+unfolding word_int
+word_signed a = go (ltb a int_half) refl
+  where
+    go : (t : Bool) → ltb a int_half ≡ t → to_z w32 a ≡ word_int a
+    go true e = rw (e, word_int)
+    go false e = rw (e, word_int)
 
-high_sub : (a : ℕ) → int_half ≤ a → a < nat_end → to_z w64 a -ℤ pos nat_end ≡ word_int a
-high_sub a h k = rw (to_z_pos w64 a (omega arith), word_high a h, lt-ltb a nat_end k)
-
-high_small : (a : ℕ) → int_half ≤ a → a < nat_end → mag (word_int a) < int_half
-high_small a h k = rw (word_high a h) (omega arith)
-
-pub int_of_fits : (a : ℕ) → int_half ≤ a → a < nat_end → SFits w64 (to_z w64 a -ℤ pos nat_end)
-int_of_fits a h k = rw (high_sub a h k) (record { sfits = omega (arith, high_small a h k) })
-
--- From there on it is read as 4294967296 less.
-pub int_of_high : (a : ℕ) → int_half ≤ a → a < nat_end → IntOf a (through (to_z w64 a -ℤ pos nat_end))
-int_of_high a h k =
-    rw (high_sub a h k, back (le_of_lt (high_small a h k))) (record { is = refl; small = high_small a h k })
+-- A word's 32 bits, read with a sign and taken for 64.
+pub int_of_word : {a : ℕ} {s r : ℤ} → mag s < int_half → s ≡ to_z w32 a → r ≡ to_z w32 (of_z w32 s) → IntOf a (through r)
+int_of_word {a} {s} {r} h e d =
+    let same : r ≡ s = d ∙ to_z-of_z w32 s (record { sfits = h }) in
+    rw (same, back {x = s} (omega arith)) (record { is = e ∙ word_signed a; small = h })
 
 -- A word's Int comes back from its 64 bits.
 pub int_of_back : {a : ℕ} {x : ℤ} → IntOf a x → through x ≡ word_int a
@@ -48,75 +45,58 @@ int_of_back i = back (le_of_lt i.small) ∙ i.is
 
 -- a whole number to a word ----------------------------------------------------------
 
-out_said : (z : ℤ) → in_int z ≡ false → Outside ≡ answered (int_answer (some z))
+pub out_said : (z : ℤ) → in_int z ≡ false → Err Outside ≡ answered (int_answer (some z))
 unfolding answered int_answer
 out_said z e = rw (e, int_answer)
 
-in_said : (z : ℤ) → in_int z ≡ true → Value (int_word z) ≡ answered (int_answer (some z))
+pub in_said : (z : ℤ) → in_int z ≡ true → Ok (int_word z) ≡ answered (int_answer (some z))
 unfolding answered int_answer word
 in_said z e = rw (e, int_answer)
 
--- the word of an Int z is the number w
-record Is (z w : ℤ) : Type 0 where
-  inside : in_int z ≡ true
-  same : w ≡ pos (int_word z)
-  below : int_word z < nat_end
-
-too_low : (z : ℤ) → lt_z z (negsuc 2147483647) ≡ true → in_int z ≡ false
+in_range : (z : ℤ) → SFits w32 z → in_int z ≡ true
 unfolding in_int
-too_low (pos n) e = absurd (false≢true e)
-too_low (negsuc n) e = le-ltb n int_half (ltb-true 2147483647 n e)
+in_range (pos n) f = lt-ltb n int_half f.sfits
+in_range (negsuc n) f = lt-ltb n int_half f.sfits
 
-low : (z : ℤ) → lt_z z (pos 0) ≡ true → lt_z z (negsuc 2147483647) ≡ false → Is z (z +ℤ pos nat_end)
-unfolding in_int int_word
-low (pos n) e h = absurd (omega (arith, ltb-true n 0 e))
-low (negsuc n) e h =
-    let k : n < int_half = omega (arith, ltb-false 2147483647 n h) in
-    record { inside = lt-ltb n int_half k; same = rw (le-ltb nat_end (suc n) (omega arith)); below = omega arith }
-
-high : (z : ℤ) → lt_z z (pos 0) ≡ false → lt_z z (pos int_half) ≡ true → Is z z
-unfolding in_int int_word
-high (pos n) e h = let k = ltb-true n int_half h in record { inside = h; same = refl; below = omega arith }
-high (negsuc n) e h = absurd (true≢false e)
-
-too_high : (z : ℤ) → lt_z z (pos 0) ≡ false → lt_z z (pos int_half) ≡ false → in_int z ≡ false
+out_of_range : (z : ℤ) → (SFits w32 z → ⊥) → in_int z ≡ false
 unfolding in_int
-too_high (pos n) e h = h
-too_high (negsuc n) e h = absurd (true≢false e)
+out_of_range (pos n) h = false_from_ne_true (ltb n int_half) λ e. h (record { sfits = ltb-true n int_half e })
+out_of_range (negsuc n) h = false_from_ne_true (ltb n int_half) λ e. h (record { sfits = ltb-true n int_half e })
 
--- a number that is taken for a word: its bits, the cast of them, and the answer
-pub record Taken (z w : ℤ) : Type 0 where
-  pub fits : SFits w64 w
-  pub casts : (T (non_neg (through w))) × (Fits w32 (nat_abs (through w)))
-  pub said : Value (nat_abs (through w)) ≡ answered (int_answer (some z))
-
-taken : {z w : ℤ} → Is z w → Taken z w
-taken {z} {w} i =
-    let b = i.below in
-    let f : SFits w64 (pos (int_word z)) = record { sfits = omega arith } in
-    rw i.same
-    (record {
-      fits = f;
-      casts = rw (to_z-of_z w64 (pos (int_word z)) f) (tt, record { fits = b });
-      said = rw (to_z-of_z w64 (pos (int_word z)) f) (in_said z i.inside);
-    })
+bits_word : (z : ℤ) → of_z w32 z ≡ int_word z
+unfolding int_word
+bits_word (pos n) = refl
+bits_word (negsuc n) = refl
 
 -- What the code's tests tell of a number as it comes back from its 64 bits.
 module _ {z : ℤ} (f : SFits w64 z) where
-  -- Below -2147483648 the answer is 35.
-  pub int_too_low : lt_z (through z) (negsuc 2147483647) ≡ true → Outside ≡ answered (int_answer (some z))
-  int_too_low h = out_said z (too_low z (rw (to_z-of_z w64 z f) at h))
+  -- Outside of 32 bits with a sign the answer is 35.
+  pub int_outside : (SFits w32 (through z) → ⊥) → Err Outside ≡ answered (int_answer (some z))
+  int_outside h = out_said z (out_of_range z (rw (to_z-of_z w64 z f) at h))
 
-  -- A negative Int's word is 4294967296 more.
-  pub int_low : lt_z (through z) (pos 0) ≡ true → lt_z (through z) (negsuc 2147483647) ≡ false
-      → Taken z (through z +ℤ pos nat_end)
-  int_low e h = rw (to_z-of_z w64 z f) (taken (low z (rw (to_z-of_z w64 z f) at e) (rw (to_z-of_z w64 z f) at h)))
+  -- Within them it is those bits.
+  pub int_inside : {n : ℤ} {w : ℕ} → (SFits w32 (through z)) × (n ≡ through z) → w ≡ of_z w32 (to_z w32 (of_z w32 n))
+      → Ok w ≡ answered (int_answer (some z))
+  int_inside {n} {w} (g, e) d =
+      let g' : SFits w32 z = rw (to_z-of_z w64 z f) at g in
+      let e' : n ≡ z = e ∙ to_z-of_z w64 z f in
+      let d' : w ≡ int_word z = d ∙ rw (e', to_z-of_z w32 z g') (bits_word z) in
+      ap Ok d' ∙ in_said z (in_range z g')
 
-  -- An Int from zero on is its word.
-  pub int_high : lt_z (through z) (pos 0) ≡ false → lt_z (through z) (pos int_half) ≡ true → Taken z z
-  int_high e h = taken (high z (rw (to_z-of_z w64 z f) at e) (rw (to_z-of_z w64 z f) at h))
+-- what is computed of two words ------------------------------------------------------
 
-  -- From 2147483648 on the answer is 35.
-  pub int_too_high : lt_z (through z) (pos 0) ≡ false → lt_z (through z) (pos int_half) ≡ false
-      → Outside ≡ answered (int_answer (some z))
-  int_too_high e h = out_said z (too_high z (rw (to_z-of_z w64 z f) at e) (rw (to_z-of_z w64 z f) at h))
+module _ {a b : ℕ} {x y : ℤ} (h : IntOf a x) (k : IntOf b y) where
+  left : SFits w64 x
+  left = let l = h.small in record { sfits = omega arith }
+
+  right : SFits w64 y
+  right = let l = k.small in record { sfits = omega arith }
+
+  pub product_words : through (through x *ℤ through y) ≡ word_int a *ℤ word_int b
+  product_words = (product_carries left right (h.small, k.small)).gives ∙ rw (h.is, k.is)
+
+  pub sum_words : through (through x +ℤ through y) ≡ word_int a +ℤ word_int b
+  sum_words = (sum_carries left right (h.small, k.small)).gives ∙ rw (h.is, k.is)
+
+  pub difference_words : through (through x -ℤ through y) ≡ word_int a -ℤ word_int b
+  difference_words = (difference_carries left right (h.small, k.small)).gives ∙ rw (h.is, k.is)

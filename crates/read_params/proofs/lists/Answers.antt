@@ -1,61 +1,55 @@
--- `lists` meets its contract. The invariant: once the lists that are left are read and stand, all do. The measure is how many are left.
-use Rattle.std.proofs.Common.{arith, refl, sym, subst, ◌∙◌}
-use Rattle.read_params.specs.ParamsTold.{PlaceSpan}
-use Rattle.read_params.specs.ParamsWays.{span_from}
+-- `lists` meets its contract. The invariant: once the lists that are left are read and stand, all do.
+use Rattle.std.proofs.Common.{◌+◌, ◌-◌, ◌≡◌, arith, refl, sym, ◌∙◌}
+use Rattle.std.proofs.lemmas.Result.{err_from_is_err_and}
 use Rattle.read_params.specs.ParamsLeft.{lists_all, lists_none, lists_stop, lists_next}
 use Rattle.read_params.proofs.lists.Goals as goal
 
-pub loop-left-init : goal.loop-left-init
-loop-left-init c =
-    let pre = c.requires in
-    (omega arith, omega arith, omega (arith, pre), refl, refl, lists_all _ _ _ _ _ _ _)
+pub loop-k-init : goal.loop-k-init
+loop-k-init c =
+    let n : c.args.n - 0 ≡ c.args.n = omega arith in
+    (omega arith, omega (arith, c.requires), refl, refl, rw n (lists_all _ _ _ _ _ _ _))
 
-pub list-first-requires : goal.list-first-requires
-list-first-requires c =
-    let h = c.loop-left.invariant in
-    omega (arith, c.requires, h.0, h.3, h.4, c.loop-left-test.true)
+pub list-requires : goal.list-requires
+list-requires c =
+    let h = c.loop-k.invariant in
+    omega (arith, c.requires, h.2, h.3)
 
-pub shape_of-counts-in_default : goal.shape_of-counts-in_default
-shape_of-counts-in_default c = c.list-first.auto.counts ∙ c.loop-left.invariant.3
+pub shape_of-counts-in_err-next : goal.shape_of-counts-in_err-next
+shape_of-counts-in_err-next c = c.list.auto.counts ∙ c.loop-k.invariant.2
 
-pub shape_of-types-in_default : goal.shape_of-types-in_default
-shape_of-types-in_default c = c.list-first.auto.types ∙ c.loop-left.invariant.4
+pub shape_of-types-in_err-next : goal.shape_of-types-in_err-next
+shape_of-types-in_err-next c = c.list.auto.types ∙ c.loop-k.invariant.3
 
-pub returns-in_default : goal.returns-in_default
-returns-in_default c =
-    let h = c.loop-left.invariant in let none = c.in_default.is in
-    let q = lists_stop h.5 c.loop-left-test.true _ (sym c.list-first.ensures.value ∙ none) c.list-first.new.counts c.list-first.new.types in
-    record { value = none ∙ q.0; place_span = span_from _ _ _ c.list-first.result h.1 c.list-first.ensures.place_span; lists_kept = q.1 }
+pub returns-in_err-next : goal.returns-in_err-next
+returns-in_err-next c =
+    let h = c.loop-k.invariant in
+    let more : c.args.n - c.loop-k.k ≡ 0 → ⊥ = λ z. omega arith in
+    let p = err_from_is_err_and c.from_residual.result c.from_residual.ensures.1 in
+    let q = lists_stop h.4 more _ (sym c.in_err-next.ensures.value) c.list.new.counts c.list.new.types in
+    rw (p.1, p.2) (record { value = q.0; place_span = tt; lists_kept = q.1 })
 
-pub overflow_sub-left : goal.overflow_sub-left
-overflow_sub-left c = omega (arith, c.loop-left-test.true)
-
-pub overflow_add-j : goal.overflow_add-j
-overflow_add-j c = omega (arith, c.requires, c.loop-left.invariant.0, c.loop-left-test.true)
-
-pub loop-left-smaller : goal.loop-left-smaller
-loop-left-smaller c = omega (arith, c.loop-left-test.true)
-
-pub loop-left-preserved : goal.loop-left-preserved
-loop-left-preserved c =
-    let h = c.loop-left.invariant in let some = c.loop-left-test.true in
-    let span = subst (PlaceSpan c.args.s.now c.loop-left.next) c.in-Place.is c.list-first.ensures.place_span in (
-      omega (arith, h.0, some),
-      omega (arith, span, h.1),
+pub loop-k-preserved : goal.loop-k-preserved
+loop-k-preserved c =
+    let h = c.loop-k.invariant in
+    let more : c.args.n - c.loop-k.k ≡ 0 → ⊥ = λ z. omega arith in
+    let one : c.args.n - (c.loop-k.k + 1) ≡ c.args.n - c.loop-k.k - 1 = omega arith in
+    let span = c.in_ok-next.ensures.place_span in (
+      omega (arith, span, h.0),
       omega (arith, span),
-      c.list-first.auto.counts ∙ h.3,
-      c.list-first.auto.types ∙ h.4,
-      lists_next h.5 some _ (sym c.list-first.ensures.value ∙ c.in-Place.is) _ _ c.list-first.ensures.list_kept,
+      c.list.auto.counts ∙ h.2,
+      c.list.auto.types ∙ h.3,
+      rw one (lists_next h.4 more _ (sym c.in_ok-next.ensures.value) _ _ c.in_ok-next.ensures.list_kept),
     )
 
 pub shape_of-counts : goal.shape_of-counts
-shape_of-counts c = c.loop-left.invariant.3
+shape_of-counts c = c.loop-k.invariant.2
 
 pub shape_of-types : goal.shape_of-types
-shape_of-types c = c.loop-left.invariant.4
+shape_of-types c = c.loop-k.invariant.3
 
 pub returns : goal.returns
 returns c =
-    let h = c.loop-left.invariant in
-    let q = lists_none h.5 c.loop-left-test.false in
-    record { value = q.0; place_span = (h.1, h.2); lists_kept = q.1 }
+    let h = c.loop-k.invariant in
+    let none : c.args.n - c.loop-k.k ≡ 0 = omega arith in
+    let q = lists_none h.4 none in
+    record { value = q.0; place_span = (h.0, h.1); lists_kept = q.1 }

@@ -11,11 +11,8 @@ decreases-item l = length l.s.now - l.at
 abbrev pub decreases-items : goal.decreases-items
 decreases-items l = length l.s.now - l.at
 
-abbrev pub invariant-items-loop-left : goal.invariant-items-loop-left
-invariant-items-loop-left l =
+abbrev pub invariant-items-loop-i : goal.invariant-items-loop-i
+invariant-items-loop-i l =
     ((l.at + 1 ≤ l.next) × (l.next ≤ length l.s) × (l.all.count + l.at ≤ l.next))
-    × ((ar : List ℕ) → length ar ≡ l.structs
-    → row (rows_from l.rows 0 l.steps) l.structs (read_item ar l.s l.depth) (plan_of l.initial.all) l.initial.left l.initial.next ≡ row (rows_from l.rows 0 l.steps) l.structs (read_item ar l.s l.depth) (plan_of l.all) l.left l.next)
-
-abbrev pub decreases-items-loop-left : goal.decreases-items-loop-left
-decreases-items-loop-left l = l.left
+    × ((ar : List ℕ) → length ar ≡ l.t.structs
+    → row (rows_from l.t.rows.now 0 l.t.steps) l.t.structs (read_item ar l.s l.depth) (plan_of l.initial.all) l.n l.initial.next ≡ row (rows_from l.t.rows.now 0 l.t.steps) l.t.structs (read_item ar l.s l.depth) (plan_of l.all) (l.n - l.i) l.next)

@@ -1,4 +1,4 @@
--- `had` meets its contract. The loop's invariant: some struct has the step where one from struct k on has it. The measure is the structs left.
+-- `had` meets its contract. The loop's invariant: some struct has the step where one from struct k on has it.
 use Rattle.std.proofs.Common.{◌-◌, arith, ◌≡◌, refl, sym, ◌∙◌}
 use Rattle.directory.specs.Rows.{rows_from}
 use Rattle.read_schedule.specs.PlanWays.{had_none, had_here, had_on}
@@ -6,22 +6,20 @@ use Rattle.read_schedule.proofs.had.Goals as goal
 
 pub loop-k-init : goal.loop-k-init
 loop-k-init c =
-    let whole : c.args.structs - 0 ≡ c.args.structs = omega arith in
-    (omega arith, rw whole refl)
+    let whole : c.args.t.now.structs - 0 ≡ c.args.t.now.structs = omega arith in
+    rw whole refl
 
 pub returns-then-there : goal.returns-then-there
 returns-then-there c =
     let a = c.args in
-    sym (c.loop-k.invariant.1 ∙ had_here (rows_from a.rows.now 0 a.steps) a.n c.loop-k.k a.structs (omega arith) (sym c.there.ensures ∙ c.if-there.true))
+    sym (c.loop-k.invariant ∙ had_here (rows_from a.t.now.rows.now 0 a.t.now.steps) a.n c.loop-k.k a.t.now.structs (omega arith) (sym c.there.ensures ∙ c.if-there.true))
 
 pub loop-k-preserved : goal.loop-k-preserved
 loop-k-preserved c =
-    let a = c.args in (
-      omega arith,
-      c.loop-k.invariant.1 ∙ had_on (rows_from a.rows.now 0 a.steps) a.n c.loop-k.k a.structs (omega arith) (sym c.there.ensures ∙ c.if-there.false),
-    )
+    let a = c.args in
+    c.loop-k.invariant ∙ had_on (rows_from a.t.now.rows.now 0 a.t.now.steps) a.n c.loop-k.k a.t.now.structs (omega arith) (sym c.there.ensures ∙ c.if-there.false)
 
 pub returns : goal.returns
 returns c =
     let a = c.args in
-    sym (c.loop-k.invariant.1 ∙ had_none (rows_from a.rows.now 0 a.steps) a.n c.loop-k.k a.structs (omega arith))
+    sym (c.loop-k.invariant ∙ had_none (rows_from a.t.now.rows.now 0 a.t.now.steps) a.n c.loop-k.k a.t.now.structs (omega arith))

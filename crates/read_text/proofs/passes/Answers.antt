@@ -1,6 +1,6 @@
 -- `passes` meets its contract: 15, 16, or on behind the derivation of the text.
 use Rattle.std.specs.Prelude.{not}
-use Rattle.std.proofs.Common.{arith, ap, ◌∙◌}
+use Rattle.std.proofs.Common.{arith, refl, ap, ◌∙◌}
 use Rattle.read_text.specs.PassLaws.{way_15, way_16, roled_there, way_on}
 use Rattle.read_text.proofs.passes.Goals as goal
 
@@ -8,7 +8,7 @@ pub returns-then-not-mark : goal.returns-then-not-mark
 returns-then-not-mark c =
     let args = c.args in let r = c.mark in
     let both = way_15 args.text.now args.kinds.now _ c.requires.kinds_len.0 r.result r.ensures.value r.ensures.kinds_after args.out.now
-    (ap not c.if-not-mark.true) _ c.refused.ensures in
+    (ap not c.if-not-mark.true) _ refl in
     record {
       value = both.0;
       out_after = both.1;
@@ -19,7 +19,7 @@ returns-then-not-derived c =
     let d = c.derived in let args = c.args in let r = c.mark in
     let both = way_16 args.text.now args.kinds.now _ c.requires.kinds_len.0 r.result r.ensures.value r.ensures.kinds_after args.out.now
     (ap not c.if-not-mark.false) _ d.result d.ensures.value d.ensures.kinds_after (ap not c.if-not-derived.true) _
-    c.refused-then-not-derived.ensures in
+    refl in
     record {
       value = both.0;
       out_after = both.1;

@@ -1,5 +1,5 @@
 -- `read` meets its contract: a text that is too long is refused, any other goes through the passes.
-use Rattle.std.proofs.Common.{arith, sym, length, length-take-le}
+use Rattle.std.proofs.Common.{arith, ◌∙◌, sym, length, length-take-le}
 use Rattle.lexer.specs.GapLaws.{gap_fresh}
 use Rattle.read_text.specs.PassLaws.{read_long, read_on}
 use Rattle.source.specs.Source.{max_text}
@@ -8,7 +8,7 @@ use Rattle.read_text.proofs.read.Goals as goal
 pub returns-then-n-gt-MAX_TEXT : goal.returns-then-n-gt-MAX_TEXT
 returns-then-n-gt-MAX_TEXT c =
     let args = c.args in
-    let both = read_long args.text.now args.out.now c.refused.result c.if-n-gt-MAX_TEXT.true c.refused.ensures in
+    let both = read_long args.text.now args.out.now c.answered.result c.if-n-gt-MAX_TEXT.true c.answered.ensures in
     record {
       number_value = both.0;
       out_after = both.1;
@@ -28,7 +28,7 @@ passes-requires c =
 pub returns : goal.returns
 returns c =
     let args = c.args in
-    let both = read_on args.text.now args.out.now _ c.passes.result c.if-n-gt-MAX_TEXT.false (c.passes.ensures.value, c.passes.ensures.out_after) in
+    let both = read_on args.text.now args.out.now _ c.answered-2.result c.if-n-gt-MAX_TEXT.false (c.answered-2.ensures ∙ c.passes.ensures.value, c.passes.ensures.out_after) in
     record {
       number_value = both.0;
       out_after = both.1;

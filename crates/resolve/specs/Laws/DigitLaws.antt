@@ -1,7 +1,9 @@
 -- A literal's digits are added up one after the other, up to the bound of Nat; what is outside its type is so by that number too.
-use Prim.Native.Nat.{ℕ, zero, suc, ◌+◌, ◌*◌, ◌-◌, ◌≤◌, ◌<◌}
+use Prim.Native.Nat.{ℕ, zero, suc, ◌+◌, ◌*◌, ◌-◌, ◌≤◌, ◌<◌, min}
+use Rattle.std.proofs.lemmas.List.{get_or_past}
 use Rattle.std.proofs.Common.{arith, ◌∙◌, drop_of_length-le}
-use Rattle.std.specs.Prelude.{◌≡◌, Bool, List, [], ◌∷◌, length, get_or, drop, leb}
+use Rattle.std.specs.Prelude.{◌≡◌, Bool, List, [], ◌∷◌, length, get_or, drop, leb, Option, Some, None, Result, Ok, Err}
+use Rattle.std.specs.Result.{OkIff, result_ok}
 use Rattle.std.proofs.Math.Path.{refl, sym, ap}
 use Rattle.std.proofs.Math.Bool.{true, false}
 use Rattle.std.proofs.Math.Option.{some}
@@ -18,7 +20,6 @@ use Rattle.syntax.specs.Syntax.{Literal.int_literal}
 use Rattle.meaning.specs.Values.{decimal_from, decimal, signed}
 use Rattle.meaning.specs.Meant.{provided, literal_meaning}
 use Rattle.resolve.specs.Digits.{digits_of, digits_at, capped, word_of, nat_at, int_at, signed_word}
-use Rattle.resolve.specs.declared.Word.TheVariants.{Of, Outside}
 use Rattle.tokens.specs.Bytes.{zero_byte, nine_byte, plus_byte}
 
 capped_under : (n : ℕ) → n < nat_end → capped n ≡ n
@@ -104,6 +105,10 @@ module _ {s : List ℕ} {at n i : ℕ} (r : Adds s at n i) where
       go true e = capped_under n (ltb-true n nat_end e)
       go false e = let l : nat_end ≤ n = ltb-false n nat_end e in capped_over n l ∙ (let k = r.small in omega arith)
 
+  pub adds_out : length s ≤ i → n ≡ capped (decimal (digits_at s at))
+  unfolding digit between
+  adds_out l = adds_end (let e : get_or s i 0 ≡ 0 = get_or_past s i 0 l in rw e refl)
+
 -- and b is the byte at hand
 pub record Added (s : List ℕ) (at n i b : ℕ) : Type 0 where
   pub sum : Adds s at n i
@@ -138,6 +143,13 @@ module _ (n b : ℕ) {d : ℕ} (e : d ≡ b - zero_byte) where
   pub longer_over : nat_end ≤ n * 10 + d → nat_end ≡ capped (n * 10 + (b - zero_byte))
   longer_over l = sym (capped_over (n * 10 + d) l) ∙ ap (λ k. capped (n * 10 + k)) e
 
+  pub longer_least : min nat_end (n * 10 + d) ≡ capped (n * 10 + (b - zero_byte))
+  longer_least = go (ltb (n * 10 + d) nat_end) refl
+    where
+      go : (t : Bool) → ltb (n * 10 + d) nat_end ≡ t → min nat_end (n * 10 + d) ≡ capped (n * 10 + (b - zero_byte))
+      go true f = let l = ltb-true (n * 10 + d) nat_end f in let h : min nat_end (n * 10 + d) ≡ n * 10 + d = omega arith in h ∙ longer_under l
+      go false f = let l = ltb-false (n * 10 + d) nat_end f in let h : min nat_end (n * 10 + d) ≡ nat_end = omega arith in h ∙ longer_over l
+
 -- Words --------------------------------------------------------------------------------------
 
 module _ (n m : ℕ) (e : m ≡ capped n) where
@@ -157,24 +169,24 @@ module _ (n m : ℕ) (e : m ≡ capped n) where
 
 -- an Int by its sign and its number
 module _ {p : Bool} {n : ℕ} where
-  pub above_inside : p ≡ true → n < int_half → Of n ≡ signed_word p n
+  pub above_inside : p ≡ true → n < int_half → Some n ≡ signed_word p n
   unfolding signed_word
   above_inside e l = rw (e, signed_word, lt-ltb n int_half l) refl
 
-  pub above_outside : p ≡ true → int_half ≤ n → Outside ≡ signed_word p n
+  pub above_outside : p ≡ true → int_half ≤ n → None ≡ signed_word p n
   unfolding signed_word
   above_outside e l = rw (e, signed_word, le-ltb n int_half l) refl
 
-  pub below_zero : p ≡ false → n ≡ 0 → Of 0 ≡ signed_word p n
+  pub below_zero : p ≡ false → n ≡ 0 → Some 0 ≡ signed_word p n
   unfolding signed_word
   below_zero e z = rw (e, z) refl
 
-pub below_inside : {p : Bool} {n : ℕ} → p ≡ false → (n ≡ 0 → ⊥) → n ≤ int_half → Of (nat_end - n) ≡ signed_word p n
+pub below_inside : {p : Bool} {n : ℕ} → p ≡ false → (n ≡ 0 → ⊥) → n ≤ int_half → Some (nat_end - n) ≡ signed_word p n
 unfolding signed_word
 below_inside {n = zero} e z l = absurd (z refl)
 below_inside {n = suc n} e z l = rw (e, signed_word, lt-ltb n int_half (omega arith)) refl
 
-pub below_outside : {p : Bool} {n : ℕ} → p ≡ false → int_half < n → Outside ≡ signed_word p n
+pub below_outside : {p : Bool} {n : ℕ} → p ≡ false → int_half < n → None ≡ signed_word p n
 unfolding signed_word
 below_outside {n = zero} e l = absurd (omega arith)
 below_outside {n = suc n} e l = rw (e, signed_word, le-ltb n int_half (omega arith)) refl
@@ -184,7 +196,7 @@ signed_capped : (p : Bool) (n : ℕ) → signed_word p (capped n) ≡ signed_wor
 unfolding signed_word
 signed_capped p n = go (ltb n nat_end) refl
   where
-    over : (q : Bool) (k : ℕ) → nat_end ≤ k → signed_word q k ≡ Outside
+    over : (q : Bool) (k : ℕ) → nat_end ≤ k → signed_word q k ≡ None
     over true k l = rw (signed_word, le-ltb k int_half (omega arith)) refl
     over false zero l = absurd (omega arith)
     over false (suc k) l = rw (signed_word, le-ltb k int_half (omega arith)) refl
@@ -217,15 +229,21 @@ below ds = go (decimal ds) refl
     go (suc v) h = rw (h, literal_meaning) (inner v (ltb v int_half) refl)
 
 module _ (text : List ℕ) (i : ℕ) where
-  pub nat_inside : {n : ℕ} → n ≡ capped (decimal (digits_at text i)) → n < nat_end → Of n ≡ nat_at text i
+  pub nat_inside : {n : ℕ} → n ≡ capped (decimal (digits_at text i)) → n < nat_end → Some n ≡ nat_at text i
   unfolding nat_at literal_meaning provided word_of
   nat_inside {n} e l =
       let f = capped_same (decimal (digits_at text i)) n e l in
       rw (← f, lt-ltb n nat_end l) refl
 
-  pub nat_outside : {n : ℕ} → n ≡ capped (decimal (digits_at text i)) → nat_end ≤ n → Outside ≡ nat_at text i
+  pub nat_outside : {n : ℕ} → n ≡ capped (decimal (digits_at text i)) → nat_end ≤ n → None ≡ nat_at text i
   unfolding nat_at literal_meaning provided word_of
   nat_outside {n} e l = rw (le-ltb (decimal (digits_at text i)) nat_end (capped_most (decimal (digits_at text i)) n e l)) refl
+
+  -- by a conversion to 32 bits
+  pub nat_here : {E : Type 0} {n : ℕ} {o : Option ℕ} (r : Result ℕ E) → n ≡ capped (decimal (digits_at text i)) → OkIff r (n < nat_end) n
+      → o ≡ result_ok r → o ≡ nat_at text i
+  nat_here {n = n} (Ok m) e (l, f) g = g ∙ ap Some f ∙ nat_inside e l
+  nat_here {n = n} (Err m) e l g = g ∙ nat_outside e (omega (arith, l))
 
   pub int_here : {p : Bool} {n : ℕ} → p ≡ eqb (get_or text i 0) plus_byte → n ≡ capped (decimal (digits_at text (i + 1))) → signed_word p n ≡ int_at text i
   unfolding int_at polarity

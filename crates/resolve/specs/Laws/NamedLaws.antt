@@ -2,20 +2,24 @@
 use Prim.Native.Nat.{ℕ, zero, suc, ◌+◌, ◌≤◌, ◌<◌}
 use Rattle.std.proofs.Common.{arith, ◌∙◌, drop_of_length-le}
 use Rattle.std.proofs.Math.Path.{◌≡◌, refl, sym, ap}
-use Rattle.std.specs.Prelude.{Bool, eqb}
+use Rattle.std.specs.Prelude.{Bool, eqb, Option, Some, None, MatchOption, is_some, not, cond}
 use Rattle.std.proofs.Math.Bool.{true, false}
 use mathlib.Core.List.{List, [], ◌∷◌, map}
-use Rattle.std.proofs.Math.Option.{Option, none, some}
+use Rattle.std.proofs.Math.Option.{Option as Meaning, none, some}
+use Rattle.std.specs.Option.{unwrap_or}
+use Rattle.std.specs.List.{position_or_len}
+use Rattle.std.proofs.lemmas.List.{length-map}
+use Rattle.std.proofs.lemmas.List.Recursion.{is_position_or_len}
 use Rattle.std.proofs.Math.ListN.{length, get_or, drop}
 use Rattle.std.proofs.Math.Dec.{ltb}
-use borrow.Author.Tests.{eq-eqb, ne_eqb, ltb-true, ltb-false}
+use borrow.Author.Tests.{eq-eqb, ne_eqb, ltb-true, ltb-false, lt-ltb, le-ltb}
 use Rattle.types.proofs.Laws.ListLaws.{drop_next}
 use Rattle.tokens.specs.Tokens.{name_byte, letter, digit, between, same}
 use Rattle.tokens.specs.Scanning.{span}
 use Rattle.lexer.specs.RunLaws.{inside}
 use Rattle.syntax.specs.Syntax.{Id}
 use Rattle.meaning.specs.Finding.{Place, find, one_later}
-use Rattle.resolve.specs.Named.{name_of, name_at, names_at, name_letter, sought}
+use Rattle.resolve.specs.Named.{name_of, name_at, names_at, name_letter, sought, found}
 
 -- One letter ---------------------------------------------------------------------------------
 
@@ -149,6 +153,61 @@ module _ {s table : List ℕ} {x : Id} {i : ℕ} (r : Seeks s table x i) where
       let f : sought x (names_at s (drop i table)) ≡ 0 = rw (drop_of_length-le table {i = i} l) refl in
       omega (arith, f, r.same_place)
 
+module _ (s : List ℕ) (x : Id) where
+  sought_first : (l : List ℕ) → sought x (names_at s l) ≡ position_or_len (λ p. same (name_at s p) x) l
+  unfolding sought
+  sought_first = is_position_or_len (λ l. sought x (names_at s l)) (λ p. same (name_at s p) x) refl (λ p l. go p (same (name_at s p) x) refl l)
+    where
+      go : (p : ℕ) (t : Bool) → same (name_at s p) x ≡ t → (l : List ℕ) → sought x (names_at s (p ∷ l)) ≡ cond (same (name_at s p) x) 0 (1 + sought x (names_at s l))
+      go p true e l = rw (sought, e) refl
+      go p false e l = rw (sought, e) (omega arith)
+
+  -- what is sought stands among the places, or after them
+  sought_inside : (l : List ℕ) → sought x (names_at s l) ≤ length l
+  unfolding sought
+  sought_inside [] = omega arith
+  sought_inside (p ∷ l) = go (same (name_at s p) x) refl (sought_inside l)
+    where
+      go : (t : Bool) → same (name_at s p) x ≡ t → sought x (names_at s l) ≤ length l → sought x (name_at s p ∷ names_at s l) ≤ suc (length l)
+      go true e h = rw (sought, e) (omega arith)
+      go false e h = rw (sought, e) (omega arith)
+
+  -- the first of some places at which the name is that one
+  pub found_sought : (l : List ℕ) (o : Option ℕ) → o ≡ found s l x
+      → MatchOption o (sought x (names_at s l) ≡ length l) (λ n. (n ≡ sought x (names_at s l)) × (n < length l))
+  found_sought l o e = rw e (go (position_or_len (λ p. same (name_at s p) x) l) (sought_first l) (sought_inside l) (ltb (position_or_len (λ p. same (name_at s p) x) l) (length l)) refl)
+    where
+      go : (k : ℕ) → sought x (names_at s l) ≡ k → sought x (names_at s l) ≤ length l → (t : Bool) → ltb k (length l) ≡ t
+          → MatchOption (cond t (Some k) None) (sought x (names_at s l) ≡ length l) (λ n. (n ≡ sought x (names_at s l)) × (n < length l))
+      go k f h true g = (sym f, ltb-true k (length l) g)
+      go k f h false g = let i = ltb-false k (length l) g in omega (arith, f, h, i)
+
+  pub found_none : (l : List ℕ) → None ≡ found s l x → length (names_at s l) ≤ sought x (names_at s l)
+  found_none l e = omega (arith, found_sought l None e, length-map l (name_at s))
+
+  pub found_some : (l : List ℕ) {n : ℕ} → Some n ≡ found s l x → (n ≡ sought x (names_at s l)) × (n < length (names_at s l))
+  found_some l {n} e = let h = found_sought l (Some n) e in (h.0, omega (arith, h.1, length-map l (name_at s)))
+
+-- whether one was found
+module _ (m k : ℕ) where
+  pub some_found : (o : Option ℕ) → MatchOption o (m ≡ k) (λ n. (n ≡ m) × (n < k)) → is_some o ≡ true → m < k
+  some_found (Some n) h e = omega (arith, h)
+  some_found None h e = absurd (let z : ◌≡◌ {A = ℕ} 0 1 = cc in omega arith)
+
+  pub none_found : (o : Option ℕ) → MatchOption o (m ≡ k) (λ n. (n ≡ m) × (n < k)) → is_some o ≡ false → m ≡ k
+  none_found None h e = h
+  none_found (Some n) h e = absurd (let z : ◌≡◌ {A = ℕ} 0 1 = cc in omega arith)
+
+  pub found_or_length : (o : Option ℕ) → MatchOption o (m ≡ k) (λ n. (n ≡ m) × (n < k)) → unwrap_or o k ≡ m
+  found_or_length (Some n) h = h.0
+  found_or_length None h = sym h
+
+  pub new_found : (o : Option ℕ) (t : Bool) → MatchOption o (m ≡ k) (λ n. (n ≡ m) × (n < k)) → is_some o ≡ not t → t ≡ not (ltb m k)
+  new_found (Some n) true h e = absurd (let z : ◌≡◌ {A = ℕ} 0 1 = cc in omega arith)
+  new_found (Some n) false h e = rw (lt-ltb m k (omega (arith, h))) refl
+  new_found None true h e = rw (le-ltb m k (omega (arith, h))) refl
+  new_found None false h e = absurd (let z : ◌≡◌ {A = ℕ} 0 1 = cc in omega arith)
+
 -- a name is found where it is sought, and not found where it is sought in vain
 module _ {A : Type 0} (key : A → Id) (x : Id) where
   pub found_where_sought : (l : List A) (p : Place A) → find key x l ≡ some p → (sought x (map key l) ≡ p.at) × (p.at < length l)
@@ -156,14 +215,14 @@ module _ {A : Type 0} (key : A → Id) (x : Id) where
   found_where_sought [] p e = absurd (let z : ◌≡◌ {A = ℕ} 0 1 = cc in omega arith)
   found_where_sought (a ∷ l) p e = go (same (key a) x) refl (find key x l) refl (λ q. found_where_sought l q)
     where
-      go : (t : Bool) → same (key a) x ≡ t → (o : Option (Place A)) → find key x l ≡ o
+      go : (t : Bool) → same (key a) x ≡ t → (o : Meaning (Place A)) → find key x l ≡ o
           → ((q : Place A) → find key x l ≡ some q → (sought x (map key l) ≡ q.at) × (q.at < length l))
           → (sought x (map key (a ∷ l)) ≡ p.at) × (p.at < length (a ∷ l))
       go true t o f rec =
           let g : some (record { at = 0; element = a }) ≡ some p = rw (t, find) at e in
           let h : record { at = 0; element = a } ≡ p = cc in
           rw (← h, sought, t) (refl, omega arith)
-      go false t none f rec = absurd (let g : ◌≡◌ {A = Option (Place A)} none (some p) = rw (t, find, f) at e in let z : ◌≡◌ {A = ℕ} 0 1 = cc in omega arith)
+      go false t none f rec = absurd (let g : ◌≡◌ {A = Meaning (Place A)} none (some p) = rw (t, find, f) at e in let z : ◌≡◌ {A = ℕ} 0 1 = cc in omega arith)
       go false t (some q) f rec =
           let g : some (record { at = suc q.at; element = q.element }) ≡ some p = rw (t, find, f) at e in
           let h : record { at = suc q.at; element = q.element } ≡ p = cc in
@@ -175,7 +234,7 @@ module _ {A : Type 0} (key : A → Id) (x : Id) where
   none_where_sought [] e = refl
   none_where_sought (a ∷ l) e = go (same (key a) x) refl (find key x l) refl (λ q. none_where_sought l q)
     where
-      go : (t : Bool) → same (key a) x ≡ t → (o : Option (Place A)) → find key x l ≡ o → (find key x l ≡ none → sought x (map key l) ≡ length l)
+      go : (t : Bool) → same (key a) x ≡ t → (o : Meaning (Place A)) → find key x l ≡ o → (find key x l ≡ none → sought x (map key l) ≡ length l)
           → sought x (map key (a ∷ l)) ≡ length (a ∷ l)
       go true t o f rec = absurd (let g : some (record { at = 0; element = a }) ≡ none = rw (t, find) at e in let z : ◌≡◌ {A = ℕ} 0 1 = cc in omega arith)
       go false t none f rec = rw (sought, t) (ap suc (rec f))

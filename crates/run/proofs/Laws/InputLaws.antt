@@ -1,6 +1,6 @@
 -- The numbers from the input are exact (01, 'Numbers from the input'): a run is refused with a number exactly where that number's
 -- condition is foremost, and begins exactly where none holds. Each stage tells its part of the order, and the entry is the stages in a row.
-use Rattle.std.specs.Prelude.{ℕ, ◌*◌, ◌≡◌, ◌↔◌, ◌⊎◌, List, [], ◌∷◌, ◌++◌, length}
+use Rattle.std.specs.Prelude.{ℕ, ◌*◌, ◌≡◌, ◌↔◌, ◌⊎◌, List, [], ◌∷◌, ◌++◌, length, Option, Some, None}
 use native.Mathlib.Omega.{arith}
 use Rattle.std.proofs.Math.Path.{refl, ap}
 use Rattle.std.proofs.Common.{ap₂, inl, inr}
@@ -16,8 +16,6 @@ use Rattle.blocks.specs.Images.{stream, fault}
 use Rattle.blocks.specs.Faults.{Says}
 use Rattle.blocks.proofs.FaultLaws.{fault_says}
 use Rattle.block.specs.declared.Fault.TheVariants.{Length, Sum, Layout}
-use Rattle.block.specs.declared.Found.{Found}
-use Rattle.block.specs.declared.Found.TheVariants.{Right, Wrong}
 use Rattle.program.specs.Tree.{Program}
 use Rattle.table.specs.Table.{Record}
 use Rattle.table.specs.TableReader.{TableAnswer, table_of_stream, table_end, table_value}
@@ -31,6 +29,7 @@ use Rattle.run.specs.Entry.{Begun, output_of, run_report_by, run_output_by, run_
 use Rattle.verdict.specs.ProgramInput.{ImageRight, Reads, AcceptedImage, reads_of, program_order}
 use Rattle.run.specs.Input.{TableAccepted, Runnable, Began, TableWrongEnd, TableWrongValue, table_order, room_order, run_order}
 use Rattle.verdict.proofs.ProgramInputLaws.{one_program, no_fault, tell_checked, accepted_none}
+use Rattle.block.specs.declared.Fault.{Fault}
 
 -- Program and table --------------------------------------------------------------------------
 
@@ -69,11 +68,11 @@ module _ (x y : List ℕ) where
   unfolding of_table_image
   tell_tabled p a = go (fault table_blocks y) (fault_says table_blocks y)
     where
-      go : (f : Found) → Says table_blocks y f → Stages (TableAccepted p y) (table_order x y) (of_table_image p.params f y)
-      go (Wrong Length) s = here refl s
-      go (Wrong Sum) s = past (λ f. f s.0) (here refl (Sum, s.1))
-      go (Wrong Layout) s = past (λ f. f s.0) (here refl (Layout, s.1))
-      go Right s =
+      go : (f : Option Fault) → Says table_blocks y f → Stages (TableAccepted p y) (table_order x y) (of_table_image p.params f y)
+      go (Some Length) s = here refl s
+      go (Some Sum) s = past (λ f. f s.0) (here refl (Sum, s.1))
+      go (Some Layout) s = past (λ f. f s.0) (here refl (Layout, s.1))
+      go None s =
           past (λ f. f s.0)
           (past (λ b. no_fault y b.0 s.1 b.1) (tell_table p a (record { length_right = s.0; blocks_right = s.1 })))
 

@@ -1,6 +1,6 @@
 -- How a row by computation becomes a fact of the entries (01, 'Bench rows'): of the images of streams, of damaged images, of what a
 -- run leaves in memory.
-use Rattle.std.specs.Prelude.{ℕ, ◌*◌, ◌≤◌, ◌≡◌, Bool, true, ◌&&◌, List, [], ◌∷◌, ◌++◌, map, length, drop, replicate, leb}
+use Rattle.std.specs.Prelude.{ℕ, ◌*◌, ◌≤◌, ◌≡◌, Bool, true, ◌&&◌, List, [], ◌∷◌, ◌++◌, map, length, drop, replicate, leb, Option as Maybe}
 use Rattle.std.proofs.Common.{ap, ap₂, ◌∙◌}
 use Rattle.std.proofs.Math.Option.{Option}
 use Rattle.types.specs.Limits.{program_blocks, table_blocks, max_commands, first_local}
@@ -9,7 +9,7 @@ use Rattle.types.specs.Reflects.{Reflects, reflects_iff, reflects_both, le_refle
 use Rattle.types.specs.Stages.{Stage.went, Stage.stopped, on}
 use Rattle.block.specs.Block.{block_size, payload_size, block_of}
 use Rattle.blocks.specs.Images.{image, pieces}
-use Rattle.block.specs.declared.Found.{Found}
+use Rattle.block.specs.declared.Fault.{Fault}
 use Rattle.program.specs.Counts.{All}
 use Rattle.program.specs.Reader.{read}
 use Rattle.machine.specs.Published.{lookup}
@@ -119,7 +119,7 @@ abbrev pub reports : ImageRow → Report
 reports r = run_report r.program r.table r.turns (lent r.out) (lent r.list)
 
 -- what program and table come to, by what their blocks are found as
-abbrev pub found : ImageRow → Found → Found → Begun
+abbrev pub found : ImageRow → Maybe Fault → Maybe Fault → Begun
 found r f g = on (of_image f r.program) λ p. on (of_table_image p.params g r.table) λ rs. begun p rs
 
 -- the number by what program and table come to

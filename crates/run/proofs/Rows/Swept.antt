@@ -1,6 +1,6 @@
 -- What is wrong with an image, by one sweep over each block (01, 'Blocks'). The sums of a block as they are defined look every byte
 -- up from the block's start; a row that computes them goes through its bytes once.
-use Rattle.std.specs.Prelude.{ℕ, zero, suc, ◌+◌, ◌*◌, ◌-◌, ◌%◌, ◌≡◌, refl, Bool, true, false, ◌&&◌, List, [], ◌∷◌, ◌++◌, length, eqb}
+use Rattle.std.specs.Prelude.{ℕ, zero, suc, ◌+◌, ◌*◌, ◌-◌, ◌%◌, ◌≡◌, refl, Bool, true, false, ◌&&◌, List, [], ◌∷◌, ◌++◌, length, eqb, Option, Some, None}
 use Rattle.std.proofs.Common.{arith, ◌∙◌}
 use Rattle.std.proofs.Math.Path.{ap}
 use Rattle.block.specs.Sums.{byte, sum, summed, wrap, sum_a, sum_b}
@@ -9,8 +9,7 @@ use Rattle.little_endian.specs.Numbers.{pair_at}
 use Rattle.block.specs.Block.{pair, sums_right, laid_out, block_fault, front, block_of}
 use Rattle.blocks.specs.Images.{length_right, count, block, is_last, first_fault, fault}
 use Rattle.block.specs.declared.Fault.TheVariants.{Length, Sum, Layout}
-use Rattle.block.specs.declared.Found.{Found}
-use Rattle.block.specs.declared.Found.TheVariants.{Right, Wrong}
+use Rattle.block.specs.declared.Fault.{Fault}
 
 -- Sums ---------------------------------------------------------------------------------
 
@@ -66,10 +65,10 @@ unfoldable pub swept_right : List ℕ → Bool
 swept_right b = eqb (pair_at b 508) (plain_sum summed b % wrap) && eqb (pair_at b 510) (falling_sum summed b % wrap)
 
 -- what is wrong with block k, by whether its sums are right
-abbrev fault_by : ℕ → Bool → List ℕ → Bool → Found
-fault_by k last b right = elim right [ false ↦ Wrong Sum | true ↦ elim (laid_out k last b) [ false ↦ Wrong Layout | true ↦ Right ] ]
+abbrev fault_by : ℕ → Bool → List ℕ → Bool → Option Fault
+fault_by k last b right = elim right [ false ↦ Some Sum | true ↦ elim (laid_out k last b) [ false ↦ Some Layout | true ↦ None ] ]
 
-unfoldable pub swept_fault : ℕ → Bool → List ℕ → Found
+unfoldable pub swept_fault : ℕ → Bool → List ℕ → Option Fault
 swept_fault k last b = fault_by k last b (swept_right b)
 
 -- the block of index k that holds the bytes p
@@ -92,24 +91,24 @@ block_is k p = rw (sum_a_is (front k p), sum_b_is (front k p))
 
 -- Images -------------------------------------------------------------------------------
 
-abbrev after : Found → Found → Found
-after f g = elim f [ Wrong e ↦ Wrong e | Right ↦ g ]
+abbrev after : Option Fault → Option Fault → Option Fault
+after f g = elim f [ Some e ↦ Some e | None ↦ g ]
 
-unfoldable pub first_swept : ℕ → List ℕ → ℕ → Found
-first_swept n x zero = Right
+unfoldable pub first_swept : ℕ → List ℕ → ℕ → Option Fault
+first_swept n x zero = None
 first_swept n x (suc k) = after (first_swept n x k) (swept_fault k (is_last n k) (block x k))
 
-abbrev by_length : Bool → Found → Found
-by_length t f = elim t [ false ↦ Wrong Length | true ↦ f ]
+abbrev by_length : Bool → Option Fault → Option Fault
+by_length t f = elim t [ false ↦ Some Length | true ↦ f ]
 
-unfoldable pub swept : ℕ → List ℕ → Found
+unfoldable pub swept : ℕ → List ℕ → Option Fault
 swept max x = by_length (length_right max (length x)) (first_swept (count x) x (count x))
 
 first_is : (n : ℕ) (x : List ℕ) (k : ℕ) → first_fault n x k ≡ first_swept n x k
 unfolding first_fault first_swept
 first_is n x zero = refl
 first_is n x (suc k) =
-    ap (λ (f : Found). after f (block_fault k (is_last n k) (block x k))) (first_is n x k)
+    ap (λ (f : Option Fault). after f (block_fault k (is_last n k) (block x k))) (first_is n x k)
     ∙ ap (after (first_swept n x k)) (block_swept k (is_last n k) (block x k))
 
 pub fault_is : (max : ℕ) (x : List ℕ) → fault max x ≡ swept max x

@@ -1,38 +1,24 @@
 -- `run` meets its contract: the program is refused, or a run begins after it.
-use Rattle.std.proofs.Common.{arith, sym, ◌∙◌, take, length-take-le}
-use Rattle.load.specs.LoadLaws.{LoadedAs, load_refused, load_value}
-use Rattle.seating.specs.Seated.{Opens}
-use Rattle.seating.specs.SizeLaws.{loaded_short}
-use Rattle.seating.specs.AdmitLaws.{held_opens}
+use Rattle.std.proofs.Common.{sym, length-take-le}
 use Rattle.seating.specs.SeatLaws.{images_refused, images_with}
 use Rattle.run_images.specs.StageLaws.{refused_answers, entry_answers}
 use Rattle.run_images.proofs.run.Goals as goal
 
-pub returns-in_default : goal.returns-in_default
-returns-in_default c =
-    let args = c.args in let x = args.program.now in let y = args.table.now in let told = c.in_default.is in
-    let e = load_refused x _ (sym c.admit-r.ensures.value ∙ told) in
-    let both = entry_answers x y args.turns.now args.output.now args.list.now (refused_answers (images_refused x y e) (rw (c.refusal.ensures, told) at c.refused.ensures)) in record { value = both.0; output_after = both.1.0; list_after = both.1.1 }
+pub returns-in-Err : goal.returns-in-Err
+returns-in-Err c =
+    let args = c.args in let x = args.program.now in let y = args.table.now in
+    let both = entry_answers x y args.turns.now args.output.now args.list.now (refused_answers (images_refused x y c.in-Err.ensures) (rw c.from.ensures at c.refused.ensures)) in record { value = both.0; output_after = both.1.0; list_after = both.1.1 }
 
 pub slice_bounds-stream-end : goal.slice_bounds-stream-end
-slice_bounds-stream-end c =
-    let loads' : LoadedAs c.args.program.now c.in-Program.loaded = load_value _ _ (sym c.admit-r.ensures.value ∙ c.in-Program.is) in
-    omega (arith, loaded_short _ _ loads', c.admit-r.auto.buffer)
+slice_bounds-stream-end c = c.in-Ok.ensures.2
 
 pub slice_bounds-begun-end : goal.slice_bounds-begun-end
-slice_bounds-begun-end c =
-    sym (length-take-le _ _ (let loads' : LoadedAs c.args.program.now c.in-Program.loaded = load_value _ _ (sym c.admit-r.ensures.value ∙ c.in-Program.is) in omega (arith, loaded_short _ _ loads', c.admit-r.auto.buffer)))
+slice_bounds-begun-end c = sym (length-take-le _ _ c.in-Ok.ensures.2)
 
 pub begun-requires : goal.begun-requires
-begun-requires c =
-    let loads' : LoadedAs c.args.program.now c.in-Program.loaded = load_value _ _ (sym c.admit-r.ensures.value ∙ c.in-Program.is) in
-    let opens' : Opens (record { loaded = c.in-Program.loaded; counts = c.admit-r.new.counts; types = c.admit-r.new.types }) (take c.in-Program.loaded.length c.admit-r.new.buffer) c.admit-r.new.rows loads'.program = held_opens _ _ loads' _ c.admit-r.ensures.rows_held (omega (arith, c.admit-r.auto.rows)) _ _ _ _ _ _ c.admit-r.ensures.held (omega (arith, c.admit-r.auto.counts)) (omega (arith, c.admit-r.auto.types)) in
-    (loads'.program, opens')
+begun-requires c = (c.in-Ok.ensures.0, c.in-Ok.ensures.3)
 
 pub returns : goal.returns
 returns c =
-    let loads' : LoadedAs c.args.program.now c.in-Program.loaded = load_value _ _ (sym c.admit-r.ensures.value ∙ c.in-Program.is) in
-    let opens' : Opens (record { loaded = c.in-Program.loaded; counts = c.admit-r.new.counts; types = c.admit-r.new.types }) (take c.in-Program.loaded.length c.admit-r.new.buffer) c.admit-r.new.rows loads'.program = held_opens _ _ loads' _ c.admit-r.ensures.rows_held (omega (arith, c.admit-r.auto.rows)) _ _ _ _ _ _ c.admit-r.ensures.held (omega (arith, c.admit-r.auto.counts)) (omega (arith, c.admit-r.auto.types)) in
-    let l = loads' in
-    let args = c.args in
-    let both = entry_answers args.program.now args.table.now args.turns.now args.output.now args.list.now (rw (images_with args.program.now args.table.now l.accepts) (c.begun.ensures l.program opens')) in record { value = both.0; output_after = both.1.0; list_after = both.1.1 }
+    let args = c.args in let x = args.program.now in let y = args.table.now in
+    let both = entry_answers x y args.turns.now args.output.now args.list.now (rw (images_with x y c.in-Ok.ensures.1, c.settled.ensures) (c.begun.ensures c.in-Ok.ensures.0 c.in-Ok.ensures.3)) in record { value = both.0; output_after = both.1.0; list_after = both.1.1 }

@@ -4,7 +4,7 @@ use Prim.Native.Nat.{ℕ, zero, suc, ◌*◌, ◌≤◌}
 use native.Mathlib.Omega.{arith}
 use Rattle.std.proofs.Math.Path.{◌≡◌, refl, ap}
 use Rattle.std.proofs.Common.{sym, ◌∙◌, le-ltb}
-use Rattle.std.specs.Prelude.{◌↔◌, ◌⊎◌, Bool, true, false, not, List, [], ◌∷◌, ◌++◌, length, drop, ltb}
+use Rattle.std.specs.Prelude.{◌↔◌, ◌⊎◌, Bool, true, false, not, List, [], ◌∷◌, ◌++◌, length, drop, ltb, Ok}
 use Rattle.std.proofs.Math.Logic.{inl, inr}
 use Rattle.std.proofs.Math.Seq.{take-append_seam}
 use Rattle.types.specs.Limits.{program_blocks, max_commands}
@@ -13,7 +13,6 @@ use Rattle.types.proofs.Laws.OrderLaws.{tells_number}
 use Rattle.types.specs.Stages.{Stage.stopped as CheckedRefused, Stage.went as written, Stages}
 use Rattle.types.proofs.Laws.StageLaws.{stage_on, stage_answer}
 use Rattle.block.specs.Block.{block_size}
-use Rattle.blocks.specs.declared.Written.TheVariants.{Blocks}
 use Rattle.blocks.specs.Images.{image, pieces, write, written_into}
 use Rattle.blocks.proofs.ImageLaws.{image_length}
 use Rattle.blocks.proofs.AnswerLaws.{write_fits}
@@ -88,12 +87,12 @@ module _ (x out : List ℕ) (p : Program) (e : outcome x out ≡ written p) wher
   -- Writing ---------------------------------------------------------------------------------------
 
   -- an output that has room for the largest image is never too short for a stream that is held: `write` answers the text's blocks,
-  pub text_fits : write program_blocks (length s) (length out) ≡ Blocks (text_blocks x out)
+  pub text_fits : write program_blocks (length s) (length out) ≡ Ok (text_blocks x out)
   unfolding text_blocks blocks_of
   text_fits = rw e (write_fits program_blocks (length s) (length out) (some, omega (arith, held.fits)) (omega (arith, roomy)))
 
   -- and leaves the text's output
-  pub text_put : written_into (Blocks (text_blocks x out)) s out ≡ text_output x out
+  pub text_put : written_into (Ok (text_blocks x out)) s out ≡ text_output x out
   unfolding written_into text_blocks blocks_of text_output output_of image
   text_put = rw (e, image_length s (pieces (length s))) refl
 

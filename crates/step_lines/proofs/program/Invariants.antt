@@ -11,6 +11,3 @@ invariant-loop-i l =
     × (length l.out ≡ length l.initial.out)
     × (l.at + line_most * sizes (rows_from l.rows l.i (l.n - l.i)) ≤ length l.initial.out)
     × Placed (rows_lines l.list (rows_from l.rows 0 l.i)) l.initial.out l.k l.at l.out
-
-abbrev pub decreases-loop-i : goal.decreases-loop-i
-decreases-loop-i l = l.n - l.i

@@ -6,15 +6,14 @@ use Rattle.step_part.specs.StepPart.{spot_at}
 use Rattle.step_part.specs.StepPartLaws.{spot_sought, spot_refused, spot_accepted}
 use Rattle.step_part.proofs.locate.Goals as goal
 
-pub returns-in_default : goal.returns-in_default
-returns-in_default c =
-    let told = c.in_default.is in
-    (rw (c.refusal.ensures, told) at c.nowhere.ensures)
-    ∙ spot_refused _ _ _ _ (load_refused c.args.image.now _ (sym c.program-r.ensures.value ∙ told))
+pub returns-in-Err : goal.returns-in-Err
+returns-in-Err c =
+    (rw c.from.ensures at c.nowhere.ensures)
+    ∙ spot_refused _ _ _ _ (load_refused c.args.image.now _ (sym c.in-Err.ensures.value))
 
 pub returns : goal.returns
 returns c =
-    let loads' : LoadedAs c.args.image.now c.in-Program.p = load_value _ _ (sym c.program-r.ensures.value ∙ c.in-Program.is) in
+    let loads' : LoadedAs c.args.image.now c.in-Ok.p = load_value _ _ (sym c.in-Ok.ensures.value) in
     let l = loads' in let args = c.args in
     c.spotted.ensures
     ∙ ap spot_at c.find.ensures

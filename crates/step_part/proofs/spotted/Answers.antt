@@ -8,4 +8,4 @@ pub returns-in_default : goal.returns-in_default
 returns-in_default c = c.nowhere.ensures ∙ sym (ap spot_at c.in_default.is)
 
 pub returns : goal.returns
-returns c = same_spot _ _ _ _ c.place.ensures.0 c.place-2.ensures.0 ∙ sym (ap spot_at c.in-Here.is)
+returns c = same_spot _ _ _ _ c.from.ensures c.from-2.ensures ∙ sym (ap spot_at c.in-Some.is)

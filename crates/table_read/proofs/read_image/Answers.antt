@@ -6,28 +6,28 @@ use Rattle.table_read.specs.Params.{lists_of}
 use Rattle.table_read.specs.Laws.TableWays.{image_refused, image_read}
 use Rattle.table_read.proofs.read_image.Goals as goal
 
-pub returns-in_default : goal.returns-in_default
-returns-in_default c =
-    let args = c.args in let y = args.image.now in let told = c.in_default.is in
-    let q = image_refused y (lists_of args.counts.now args.types.now) _ (opened_fault _ y _ (sym c.open_image-r.ensures.value ∙ told)) in
-    record { value = rw (q, c.table_number.ensures, c.fault_of.ensures, told) refl; table_laid = rw q tt }
+pub returns-in-Err : goal.returns-in-Err
+returns-in-Err c =
+    let args = c.args in let y = args.image.now in let told = c.in-Err.is in
+    let q = image_refused y (lists_of args.p.counts.now args.p.types.now) _ (opened_fault _ y _ (sym c.open_image.ensures.value ∙ told)) in
+    record { value = rw (q, c.table_number.ensures) refl; table_laid = rw q tt }
 
 pub slice_bounds-read-end : goal.slice_bounds-read-end
 slice_bounds-read-end c =
-    let h = opened_stream _ c.args.image.now _ (sym c.open_image-r.ensures.value ∙ c.in-Stream.is) in
-    omega (arith, h.2, c.open_image-r.auto.buffer, c.requires.table_blocks_in_bounds)
+    let h = opened_stream _ c.args.image.now _ (sym c.open_image.ensures.value ∙ c.in-Ok.is) in
+    omega (arith, h.2, c.open_image.auto.buffer, c.requires.table_blocks_in_bounds)
 
-pub slice_bounds-read-end-2 : goal.slice_bounds-read-end-2
-slice_bounds-read-end-2 c =
-    let h = opened_stream _ c.args.image.now _ (sym c.open_image-r.ensures.value ∙ c.in-Stream.is) in
-    let k : c.in-Stream.n ≤ length c.open_image-r.new.buffer =
-    omega (arith, h.2, c.open_image-r.auto.buffer, c.requires.table_blocks_in_bounds) in
+pub slice_bounds-read-end-in-Ok : goal.slice_bounds-read-end-in-Ok
+slice_bounds-read-end-in-Ok c =
+    let h = opened_stream _ c.args.image.now _ (sym c.open_image.ensures.value ∙ c.in-Ok.is) in
+    let k : c.in-Ok.n ≤ length c.open_image.new.buffer =
+    omega (arith, h.2, c.open_image.auto.buffer, c.requires.table_blocks_in_bounds) in
     sym (length-take-le _ _ k)
 
-pub returns : goal.returns
-returns c =
-    let told = c.in-Stream.is in let args = c.args in let y = args.image.now in
-    let h = opened_stream _ y _ (sym c.open_image-r.ensures.value ∙ told) in
-    let f : take c.in-Stream.n c.open_image-r.new.buffer ≡ stream y = opened_front y _ _ told c.open_image-r.ensures.buffer_after h.1 in
-    let q = image_read y (lists_of args.counts.now args.types.now) h.0 in
+pub returns-in-Ok : goal.returns-in-Ok
+returns-in-Ok c =
+    let told = c.in-Ok.is in let args = c.args in let y = args.image.now in
+    let h = opened_stream _ y _ (sym c.open_image.ensures.value ∙ told) in
+    let f : take c.in-Ok.n c.open_image.new.buffer ≡ stream y = opened_front y _ _ told c.open_image.ensures.buffer_after h.1 in
+    let q = image_read y (lists_of args.p.counts.now args.p.types.now) h.0 in
     record { value = rw q (rw f at c.read.ensures.value); table_laid = rw q (rw f at c.read.ensures.table_laid) }

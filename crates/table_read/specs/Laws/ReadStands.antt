@@ -1,14 +1,12 @@
 -- What the reader of a table answers and leaves in memory, for a program whose parameters stand in the tables that it is handed
 -- (01, 'Table and turns'): the answer is the program's, and memory stands for the machine that a run begins with.
-use Rattle.std.specs.Prelude.{ℕ, ◌+◌, ◌*◌, List, map, length}
+use Rattle.std.specs.Prelude.{ℕ, ◌+◌, ◌*◌, List, map, length, Option, Some, None}
 use Rattle.std.proofs.Common.{arith, ap, ◌∙◌}
 use Rattle.std.proofs.Math.Path.{◌≡◌}
 use Rattle.std.proofs.lemmas.List.{length-map}
 use Rattle.types.specs.Limits.{max_instances, table_blocks}
 use Rattle.types.specs.Stages.{Stage.went as table}
 use Rattle.blocks.specs.Images.{fault, stream}
-use Rattle.block.specs.declared.Found.{Found}
-use Rattle.block.specs.declared.Found.TheVariants.{Right, Wrong}
 use Rattle.program.specs.Tree.{Program}
 use Rattle.program.specs.Counts.{Counts}
 use Rattle.table.specs.Table.{Record, HeldTable, TableRight}
@@ -23,6 +21,7 @@ use Rattle.table_read.specs.Params.{lists_of, Tables}
 use Rattle.table_read.specs.ProgramTables.{params_back, params_tables}
 use Rattle.table_read.specs.TableTold.{table_told, TableLaid}
 use Rattle.table_read.specs.Laws.BeginStands.{few_all, beginning, laid_stands}
+use Rattle.block.specs.declared.Fault.{Fault}
 
 module _ (p : Program) (counts : Counts p) where
   abbrev cs : List ℕ
@@ -46,9 +45,9 @@ module _ (p : Program) (counts : Counts p) where
   unfolding of_table_image
   image_right y rs e = go (fault table_blocks y) e
     where
-      go : (f : Found) → of_table_image p.params f y ≡ table rs → TableRight p.params rs
-      go (Wrong f) e = let z : ◌≡◌ {A = ℕ} 0 1 = cc in absurd (omega arith)
-      go Right e = ((table_answer_exact p.params (stream y) rs).0 e).0
+      go : (f : Option Fault) → of_table_image p.params f y ≡ table rs → TableRight p.params rs
+      go (Some f) e = let z : ◌≡◌ {A = ℕ} 0 1 = cc in absurd (omega arith)
+      go None e = ((table_answer_exact p.params (stream y) rs).0 e).0
 
   -- and so held
   image_held : (y : List ℕ) (rs : List Record) → tabled p.params y ≡ table rs → HeldTable p.params rs

@@ -1,5 +1,5 @@
 -- Each way through the reader of a table (01, 'Table and turns', and numbers 11 and 12).
-use Rattle.std.specs.Prelude.{ℕ, ◌+◌, ◌-◌, ◌*◌, ◌<◌, ◌≤◌, Bool, get_or, leb}
+use Rattle.std.specs.Prelude.{ℕ, ◌+◌, ◌-◌, ◌*◌, ◌<◌, ◌≤◌, Bool, get_or, leb, Result as Answer, Ok, Err, Some, None}
 use Rattle.std.proofs.Common.{arith, ap, sym, ◌∙◌}
 use Rattle.std.proofs.Math.Path.{◌≡◌, refl}
 use Rattle.std.proofs.Math.Bool.{true, false}
@@ -12,7 +12,6 @@ use Rattle.types.specs.Types.{Ty}
 use Rattle.types.specs.Stages.{Stage.went as table, Stage.stopped as no_table}
 use Rattle.blocks.specs.Images.{fault, stream, table_number as block_number}
 use Rattle.block.specs.declared.Fault.{Fault}
-use Rattle.block.specs.declared.Found.TheVariants.{Right, Wrong}
 use Rattle.program.specs.Counts.{All}
 use Rattle.program.specs.Reader.{Result, Result.ok, Result.bad, then, many, guard, ended, whole}
 use Rattle.program.proofs.Laws.PartLaws.{told_is}
@@ -22,10 +21,6 @@ use Rattle.table.specs.TableReader.{read_record, read_count, read_table, referen
 use Rattle.table.specs.TableReader.{table_answer, table_of_stream}
 use Rattle.table.proofs.Laws.TableExact.{record_exact}
 use Rattle.layout.specs.Layout.{head_size, row_size}
-use Rattle.table_read.specs.declared.reading.PlaceRead.{PlaceRead}
-use Rattle.table_read.specs.declared.reading.PlaceRead.TheVariants.{Place, NoPlace}
-use Rattle.table_read.specs.declared.reading.CountRead.TheVariants.{Count, NoCount}
-use Rattle.table_read.specs.declared.TableRead.TheVariants.{Instances}
 use Rattle.table_read.specs.Params.{lists_of, Tables}
 use Rattle.table_read.specs.Laws.ParamsLaws.{lists_length, list_is, types_length}
 use Rattle.table_read.specs.Laid.{records_laid, heads_laid, rows_laid, null_records, all_records}
@@ -42,15 +37,15 @@ use Rattle.table_read.specs.Laws.ValueWays.{word_in, word_out}
 -- N --------------------------------------------------------------------------------
 
 module _ (s : List ℕ) (bytes : (i : ℕ) → get_or s i 0 < 256) (pss : List (List Ty)) where
-  pub count_cut : length s < 2 → NoCount table_end ≡ count_told (read_count pss s 0)
+  pub count_cut : length s < 2 → Err table_end ≡ count_told (read_count pss s 0)
   unfolding read_count then table_number
   count_cut h = let (p, e) = word_out s bytes 2 0 (omega arith) (omega arith) in rw e
 
-  pub count_wrong : 2 ≤ length s → (n : ℕ) → n ≡ number_at 2 s 0 → max_instances < n + length pss → NoCount table_value ≡ count_told (read_count pss s 0)
+  pub count_wrong : 2 ≤ length s → (n : ℕ) → n ≡ number_at 2 s 0 → max_instances < n + length pss → Err table_value ≡ count_told (read_count pss s 0)
   unfolding read_count then guard table_number
   count_wrong h n e w = rw (word_in s bytes 2 0 h, ← e, lt-leb (n + length pss) max_instances w)
 
-  pub count_right : 2 ≤ length s → (n : ℕ) → n ≡ number_at 2 s 0 → n + length pss ≤ max_instances → Count n ≡ count_told (read_count pss s 0)
+  pub count_right : 2 ≤ length s → (n : ℕ) → n ≡ number_at 2 s 0 → n + length pss ≤ max_instances → Ok n ≡ count_told (read_count pss s 0)
   unfolding read_count then guard
   count_right h n e w = rw (word_in s bytes 2 0 h, ← e, le-leb (n + length pss) max_instances w)
 
@@ -73,7 +68,7 @@ pub record Got (cs ts s : List ℕ) (n : ℕ) (h₀ c₀ : List ℕ) (m : ℕ) (
 module _ (cs ts s : List ℕ) (n : ℕ) where
   -- behind the null instances
   pub got : (h₀ c₀ h₁ c₁ : List ℕ) → h₁ ≡ heads_laid h₀ 0 (null_records 0 (lists_of cs ts)) → c₁ ≡ rows_laid ts c₀ 0 (null_records 0 (lists_of cs ts))
-      → {r : PlaceRead} (m : ℕ) (h c : List ℕ) → r ≡ Place m → RecordsLaid cs ts s n count_bytes h₁ c₁ (length cs) r h c → Got cs ts s n h₀ c₀ m h c
+      → {r : Answer ℕ ℕ} (m : ℕ) (h c : List ℕ) → r ≡ Ok m → RecordsLaid cs ts s n count_bytes h₁ c₁ (length cs) r h c → Got cs ts s n h₀ c₀ m h c
   got h₀ c₀ h₁ c₁ e f m h c p w =
       let (rs, q, x) = laid_is (records_laid ts h₁ c₁ (length cs)) (many [] ◌∷◌ (read_record (lists_of cs ts) s) n count_bytes) m (h, c) (rw p at w) in
       go rs q x
@@ -95,7 +90,7 @@ module _ (cs ts s : List ℕ) (n : ℕ) where
           }
 
   -- a record is refused
-  pub behind_refused : (h₁ c₁ : List ℕ) {r : PlaceRead} (e : ℕ) (h c : List ℕ) → r ≡ NoPlace e
+  pub behind_refused : (h₁ c₁ : List ℕ) {r : Answer ℕ ℕ} (e : ℕ) (h c : List ℕ) → r ≡ Err e
       → RecordsLaid cs ts s n count_bytes h₁ c₁ (length cs) r h c → behind_count (lists_of cs ts) s n ≡ no_table e
   unfolding behind_count then table_answer
   behind_refused h₁ c₁ e h c f w =
@@ -146,30 +141,30 @@ module _ {cs ts s : List ℕ} {n : ℕ} {h₀ c₀ : List ℕ} {m : ℕ} {h c : 
 
       -- the instances, and memory with all of them
       pub behind_right : t ≡ true
-          → (Instances (length cs + n) ≡ table_told (length cs) (behind_count (lists_of cs ts) s n))
+          → (Ok (length cs + n) ≡ table_told (length cs) (behind_count (lists_of cs ts) s n))
           × (TableLaid cs ts h₀ c₀ (behind_count (lists_of cs ts) s n) h c)
       behind_right w =
-          rw (ends l true (sym refers ∙ sym e ∙ w)) (ap (λ k. Instances (length cs + k)) (sym g.counted), (g.heads, g.cells))
+          rw (ends l true (sym refers ∙ sym e ∙ w)) (ap (λ k. Ok (length cs + k)) (sym g.counted), (g.heads, g.cells))
 
 -- A whole stream -------------------------------------------------------------------
 
 module _ (s : List ℕ) (pss : List (List Ty)) where
   -- N is refused
-  pub table_refused : (e : ℕ) → NoCount e ≡ count_told (read_count pss s 0) → table_of_stream pss s ≡ no_table e
+  pub table_refused : (e : ℕ) → Err e ≡ count_told (read_count pss s 0) → table_of_stream pss s ≡ no_table e
   unfolding table_of_stream whole read_table then table_answer
   table_refused e w = go (read_count pss s 0) refl w
     where
-      go : (q : Result ℕ) → read_count pss s 0 ≡ q → NoCount e ≡ count_told q → table_of_stream pss s ≡ no_table e
+      go : (q : Result ℕ) → read_count pss s 0 ≡ q → Err e ≡ count_told q → table_of_stream pss s ≡ no_table e
       go (ok n m) f w = let z : ◌≡◌ {A = ℕ} 0 1 = cc in absurd (omega arith)
       go (bad p n) f w = let z : table_number n ≡ e = cc in rw (f, z)
 
   -- N, and what stands behind it
-  pub table_behind : ((i : ℕ) → get_or s i 0 < 256) → 2 ≤ length s → (n : ℕ) → Count n ≡ count_told (read_count pss s 0)
+  pub table_behind : ((i : ℕ) → get_or s i 0 < 256) → 2 ≤ length s → (n : ℕ) → Ok n ≡ count_told (read_count pss s 0)
       → table_of_stream pss s ≡ behind_count pss s n
   unfolding table_of_stream whole read_table then guard read_count behind_count
   table_behind bytes h n w = rw (word_in s bytes 2 0 h) (go (leb (number_at 2 s 0 + length pss) max_instances) (rw (word_in s bytes 2 0 h) at w))
     where
-      go : (t : Bool) → Count n ≡ count_told (guard t 1 (number_at 2 s 0) 2)
+      go : (t : Bool) → Ok n ≡ count_told (guard t 1 (number_at 2 s 0) 2)
           → table_answer pss (then (then (guard t 1 (number_at 2 s 0) 2) λ n k. many [] ◌∷◌ (read_record pss s) n k) (ended s)) ≡ behind_count pss s n
       go true w = let z : number_at 2 s 0 ≡ n = cc in rw z
       go false w = let z : ◌≡◌ {A = ℕ} 0 1 = cc in absurd (omega arith)
@@ -177,10 +172,10 @@ module _ (s : List ℕ) (pss : List (List Ty)) where
 -- An image -------------------------------------------------------------------------
 
 module _ (y : List ℕ) (pss : List (List Ty)) where
-  pub image_refused : (f : Fault) → fault table_blocks y ≡ Wrong f → tabled pss y ≡ no_table (block_number f)
+  pub image_refused : (f : Fault) → fault table_blocks y ≡ Some f → tabled pss y ≡ no_table (block_number f)
   unfolding of_table_image
   image_refused f e = rw e
 
-  pub image_read : fault table_blocks y ≡ Right → tabled pss y ≡ table_of_stream pss (stream y)
+  pub image_read : fault table_blocks y ≡ None → tabled pss y ≡ table_of_stream pss (stream y)
   unfolding of_table_image
   image_read e = rw e

@@ -1,9 +1,9 @@
 -- Each way through the readers of a number and of a value (01, 'Table and turns').
 use Prim.Native.Nat.{ℕ, zero, suc, ◌+◌, ◌-◌, ◌*◌, ◌<◌, ◌≤◌}
+use Rattle.std.specs.Prelude.{Ok, Err, ◌≡◌, refl, true, false, List, length, get_or}
 use native.Mathlib.Omega.{arith}
 use Rattle.std.proofs.Math.Decide.{dec_lt}
 use Rattle.std.proofs.Math.Nat.{add-zero}
-use Rattle.std.specs.Prelude.{◌≡◌, refl, true, false, List, length, get_or}
 use Rattle.std.proofs.Common.{ltb-true, lt-ltb}
 use Rattle.types.specs.Limits.{nat_end}
 use Rattle.types.specs.Numbers.{table_end, table_value}
@@ -15,7 +15,6 @@ use Rattle.types.proofs.Laws.ValueLaws.{word_of_value}
 use Rattle.program.specs.Reader.{Result, Result.ok, Result.bad, byte_end, then, made, many, guard, ranged, read_word}
 use Rattle.read_exprs.specs.ByteWays.{byte_is, byte_stops, ranged_in, ranged_out}
 use Rattle.table.specs.TableReader.{allowed, read_value, table_number}
-use Rattle.table_read.specs.declared.reading.PlaceRead.TheVariants.{Place, NoPlace}
 use Rattle.little_endian.specs.Numbers.{number_at}
 use Rattle.table_read.specs.Told.{Laid}
 
@@ -46,16 +45,16 @@ module _ (s : List ℕ) (bytes : (i : ℕ) → get_or s i 0 < 256) where
 
   -- a value that the end of the stream cuts short, one that is not allowed, one that is
   module _ {M : Type 0} (f : Val → M) (x : M) (t : Ty) (at : ℕ) where
-    pub value_cut : at ≤ length s → length s - at < 4 → Laid f (read_value s t at) (NoPlace table_end) x
+    pub value_cut : at ≤ length s → length s - at < 4 → Laid f (read_value s t at) (Err table_end) x
     unfolding read_value made then table_number
     value_cut h k = let (p, e) = word_out 4 at h (omega arith) in rw e
 
-    pub value_wrong : at + 4 ≤ length s → (w : ℕ) → w ≡ number_at 4 s at → allowed t w ≡ false → Laid f (read_value s t at) (NoPlace table_value) x
+    pub value_wrong : at + 4 ≤ length s → (w : ℕ) → w ≡ number_at 4 s at → allowed t w ≡ false → Laid f (read_value s t at) (Err table_value) x
     unfolding read_value made then guard table_number
     value_wrong h w e a = rw (word_in 4 at h, ← e, a)
 
     pub value_right : at + 4 ≤ length s → (w : ℕ) → w ≡ number_at 4 s at → allowed t w ≡ true → x ≡ f (value_of t w)
-        → Laid f (read_value s t at) (Place (at + 4)) x
+        → Laid f (read_value s t at) (Ok (at + 4)) x
     unfolding read_value made then guard
     value_right h w e a q = rw (word_in 4 at h, ← e, a) (refl, q)
 

@@ -8,8 +8,8 @@ unfolding item_bytes
 returns-then-begins c =
     let e = sym c.begins.ensures ∙ c.if-begins.true in record { value = (rw (item_bytes, e) (omega arith), rw (item_bytes, e)); upper_bound = omega arith }
 
-pub returns : goal.returns
+pub returns-else-begins : goal.returns-else-begins
 unfolding item_bytes
-returns c =
+returns-else-begins c =
     let e = sym c.begins.ensures ∙ c.if-begins.false in
     record { value = rw (item_bytes, e) c.word.ensures.value; upper_bound = c.word.ensures.upper_bound }

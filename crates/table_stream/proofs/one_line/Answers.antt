@@ -7,6 +7,6 @@ pub returns-then-begins : goal.returns-then-begins
 unfolding one_line
 returns-then-begins c = let e = sym c.begins.ensures ∙ c.if-begins.true in (rw (one_line, e), omega arith)
 
-pub returns : goal.returns
+pub returns-else-begins : goal.returns-else-begins
 unfolding one_line
-returns c = let e = sym c.begins.ensures ∙ c.if-begins.false in (rw (one_line, e), omega arith)
+returns-else-begins c = let e = sym c.begins.ensures ∙ c.if-begins.false in (rw (one_line, e), omega arith)

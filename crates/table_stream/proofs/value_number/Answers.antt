@@ -7,6 +7,6 @@ pub returns-then-w-lt-MINUS : goal.returns-then-w-lt-MINUS
 unfolding value_number
 returns-then-w-lt-MINUS c = rw (value_number, lt-ltb _ 4294967296 c.if-w-lt-MINUS.true)
 
-pub returns : goal.returns
+pub returns-else-w-lt-MINUS : goal.returns-else-w-lt-MINUS
 unfolding value_number
-returns c = rw (value_number, le-ltb _ 4294967296 c.if-w-lt-MINUS.false)
+returns-else-w-lt-MINUS c = rw (value_number, le-ltb _ 4294967296 c.if-w-lt-MINUS.false)

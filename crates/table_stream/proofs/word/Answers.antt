@@ -10,8 +10,8 @@ returns-then-structure c =
     let e = c.if-structure.true in
     record { value = (rw e, rw e c.put.ensures); upper_bound = omega arith }
 
-pub returns : goal.returns
+pub returns-else-structure : goal.returns-else-structure
 unfolding word_bytes enc_word
-returns c =
+returns-else-structure c =
     let e = c.if-structure.false in
     record { value = (rw e, rw (e, ← c.value_number.ensures) c.put_word.ensures); upper_bound = omega arith }

@@ -9,7 +9,7 @@ loop-x-init c = (values_begin _ _ _ _ _ _ _, refl)
 pub loop-x-preserved : goal.loop-x-preserved
 loop-x-preserved c = (
   values_next c.loop-x.invariant.0 c.loop-x-test.true c.byte.ensures.0 c.quad.ensures.0
-      c.value_word.ensures c.put.ensures,
+      c.value_word-w.ensures c.put.ensures,
   c.put.auto.out ∙ c.loop-x.invariant.1,
 )
 

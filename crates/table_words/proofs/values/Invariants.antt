@@ -5,6 +5,3 @@ use Rattle.table_words.proofs.values.Given as goal
 abbrev pub invariant-loop-x : goal.invariant-loop-x
 invariant-loop-x l =
     (ValuesPassed l.types l.s l.i l.m l.at l.initial.out l.n l.out l.x) × (length l.out ≡ length l.initial.out)
-
-abbrev pub decreases-loop-x : goal.decreases-loop-x
-decreases-loop-x l = l.m - l.x

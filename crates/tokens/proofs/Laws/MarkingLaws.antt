@@ -1,6 +1,7 @@
 -- Marking is scanning: the kinds among the marks are those of the tokens that scanning finds. And the loop that marks, from token to token.
-use Rattle.std.specs.Prelude.{ℕ, zero, suc, ◌+◌, ◌≤◌, ◌<◌, ◌≡◌, refl, Bool, true, false, List, [], ◌∷◌, ◌++◌, map, length, get_or, set, drop, replicate}
-use Rattle.std.proofs.Common.{arith, add-one, sym, ap, ◌∙◌, length-set, length-drop, length-append, get_or-set_other, drop-drop, ne_eqb}
+use Rattle.std.specs.Prelude.{ℕ, zero, suc, ◌+◌, ◌≤◌, ◌<◌, ◌≡◌, refl, Bool, true, false, List, [], ◌∷◌, ◌++◌, map, length, get_or, set, drop, replicate, eqb, Some, None}
+use Rattle.std.proofs.Common.{arith, add-one, sym, ap, ◌∙◌, length-set, length-drop, length-append, get_or-set_other, drop-drop, ne_eqb, eqb-true}
+use Rattle.std.proofs.lemmas.Bool.{eqb-false}
 use Rattle.std.proofs.Math.Option.{Option, none, some}
 use Rattle.std.proofs.Math.ListN.{drop_of_length-le}
 use Rattle.std.proofs.lemmas.List.Edits.{sets}
@@ -11,8 +12,7 @@ use Rattle.tokens.proofs.Laws.FrontLaws.{Sound, Sound.token_sound, Sound.gap_sou
 use Rattle.tokens.specs.Kinds.{kind}
 use Rattle.tokens.proofs.Laws.KindLaws.{kind_within}
 use Rattle.tokens.specs.Marking.{spot_of, at_spot, marks_of, marks_from, marks, found, parts, kinds_in}
-use Rattle.tokens.specs.declared.Spot.{Spot}
-use Rattle.tokens.specs.declared.Spot.TheVariants.{Marked, Stray}
+use Rattle.tokens.specs.Spot.{Spot}
 
 -- The kinds are those of the tokens ----------------------------------------------------------
 
@@ -57,16 +57,20 @@ marks_tell x ts e = let h : Tells (marks x) (length x) (some ts) = rw e at (tell
 
 -- From token to token ----------------------------------------------------------------------------
 
+-- the count of a place's bytes
+count_of : {k n l m : ℕ} → ◌≡◌ {A = Spot} (Some (k, n)) (Some (l, m)) → n ≡ m
+count_of {k} {n} {l} {m} e = let both : ◌≡◌ {A = ℕ × ℕ} (k, n) (l, m) = cc e in ap (λ p. p.1) both
+
 -- what stands at the front ends inside
-pub spot_inside : (x : List ℕ) {k n : ℕ} → Marked k n ≡ spot_of (front x) → n < length x
+pub spot_inside : (x : List ℕ) {k n : ℕ} → Some (k, n) ≡ spot_of (front x) → n < length x
 unfolding spot_of
 spot_inside x {k} {n} e = go (front x) (front_sound x) e
   where
-    go : (f : Front) → Sound x f → Marked k n ≡ spot_of f → n < length x
+    go : (f : Front) → Sound x f → Some (k, n) ≡ spot_of f → n < length x
     go (token t m) (token_sound a c) e =
-        let same : n ≡ m = cc in let size = a.sized in let w = ap length a.whole in
+        let same : n ≡ m = count_of e in let size = a.sized in let w = ap length a.whole in
         omega (arith, length-append (spelling t) (drop (suc m) x))
-    go (gap m) (gap_sound g h) e = let same : n ≡ m = cc in omega arith
+    go (gap m) (gap_sound g h) e = let same : n ≡ m = count_of e in omega arith
     go nothing s e = absurd (let z : ◌≡◌ {A = ℕ} 0 1 = cc in omega arith)
 
 -- over what was taken before
@@ -84,8 +88,8 @@ marks_over (suc n) (b ∷ s) h = ap (λ l. 0 ∷ l) (marks_over n s (omega arith
 
 -- what the spot at the front says of scanning from there
 goes : Spot → (ℕ → Bool) → Bool
-goes (Marked q n) rest = rest n
-goes Stray rest = false
+goes (Some (q, n)) rest = rest n
+goes None rest = false
 
 found_spot : (b : ℕ) (s : List ℕ) → parts (b ∷ s) ≡ goes (spot_of (front (b ∷ s))) (λ n. found (lex n s))
 unfolding lex goes added found spot_of taken
@@ -100,24 +104,24 @@ found_spot b s = go (front (b ∷ s))
     go (gap n) = refl
     go nothing = refl
 
-pub marks_taken : (x : List ℕ) {k n : ℕ} → Marked k n ≡ spot_of (front x) → marks x ≡ k ∷ (replicate n 0 ++ marks (drop (n + 1) x))
+pub marks_taken : (x : List ℕ) {k n : ℕ} → Some (k, n) ≡ spot_of (front x) → marks x ≡ k ∷ (replicate n 0 ++ marks (drop (n + 1) x))
 unfolding marks_from at_spot marks_of
 marks_taken [] e = absurd (let h = spot_inside [] e in omega arith)
 marks_taken (b ∷ s) {k} {n} e =
     let size : n ≤ length s = (let h = spot_inside (b ∷ s) e in omega arith) in
     rw (← e, add-one) (ap (λ l. k ∷ l) (marks_over n s size))
 
-pub marks_stray : (x : List ℕ) → Stray ≡ spot_of (front x) → marks x ≡ []
+pub marks_stray : (x : List ℕ) → None ≡ spot_of (front x) → marks x ≡ []
 unfolding marks_from at_spot marks_of
 marks_stray [] e = refl
 marks_stray (b ∷ s) e = rw (← e) refl
 
-parts_taken : (x : List ℕ) {k n : ℕ} → Marked k n ≡ spot_of (front x) → parts x ≡ parts (drop (n + 1) x)
+parts_taken : (x : List ℕ) {k n : ℕ} → Some (k, n) ≡ spot_of (front x) → parts x ≡ parts (drop (n + 1) x)
 unfolding goes
 parts_taken [] e = absurd (let h = spot_inside [] e in omega arith)
 parts_taken (b ∷ s) {k} {n} e = found_spot b s ∙ rw (← e, add-one) (ap found (lex_over n s))
 
-parts_stray : (x : List ℕ) → 0 < length x → Stray ≡ spot_of (front x) → parts x ≡ false
+parts_stray : (x : List ℕ) → 0 < length x → None ≡ spot_of (front x) → parts x ≡ false
 unfolding goes
 parts_stray [] l e = absurd (omega arith)
 parts_stray (b ∷ s) l e = found_spot b s ∙ rw (← e) refl
@@ -145,12 +149,20 @@ module _ {text kinds₀ kinds : List ℕ} {i : ℕ} (r : Reached text kinds₀ k
   unfolding lex found marks_from
   reached_end h = let e = drop_of_length-le text {i = i} h in (rw e at r.answer, rw e at r.written)
 
-  pub reached_stray : i < length text → Stray ≡ spot_of (front (drop i text)) → (false ≡ parts text) × (kinds ≡ sets kinds₀ 0 (marks text))
+  pub reached_stray : i < length text → None ≡ spot_of (front (drop i text)) → (false ≡ parts text) × (kinds ≡ sets kinds₀ 0 (marks text))
   reached_stray l e =
       let there : 0 < length (drop i text) = omega (arith, length-drop i text) in
       (rw (parts_stray (drop i text) there e) at r.answer, rw (marks_stray (drop i text) e) at r.written)
 
-  module _ {k n : ℕ} (e : Marked k n ≡ spot_of (front (drop i text))) where
+  -- no token begins there: at the text's end, or before it
+  pub reached_out : None ≡ spot_of (front (drop i text)) → (eqb i (length text) ≡ parts text) × (kinds ≡ sets kinds₀ 0 (marks text))
+  reached_out e = go (eqb i (length text)) refl
+    where
+      go : (b : Bool) → eqb i (length text) ≡ b → (b ≡ parts text) × (kinds ≡ sets kinds₀ 0 (marks text))
+      go true f = let h = eqb-true i (length text) f in reached_end (omega (arith, h))
+      go false f = let h = eqb-false i (length text) f in reached_stray (omega (arith, h, r.inner)) e
+
+  module _ {k n : ℕ} (e : Some (k, n) ≡ spot_of (front (drop i text))) where
     pub ends_inside : i + (n + 1) ≤ length text
     ends_inside = let h = spot_inside (drop i text) e in omega (arith, length-drop i text)
 

@@ -10,13 +10,4 @@ overflow_cast-k c = omega (arith, c.type_inv.heads (head c.args.l struct_of))
 pub returns : goal.returns
 unfolding position_of
 returns c =
-    c.minus.ensures
-    ∙ rw (
-      c.minus-size.ensures,
-      c.minus-left.ensures,
-      c.wide-from.ensures,
-      c.wide-to.ensures,
-      c.wide.ensures,
-      c.wide-2.ensures,
-      add-one,
-    )
+    c.from.ensures ∙ rw (c.saturating_sub.ensures, c.saturating_sub-size.ensures, c.saturating_sub-left.ensures, add-one)

@@ -5,5 +5,5 @@ use Rattle.trace_lines.proofs.step_at.Goals as goal
 pub returns-then-item-lt-FIX : goal.returns-then-item-lt-FIX
 returns-then-item-lt-FIX c = step_started _ _ c.if-item-lt-FIX.true
 
-pub returns : goal.returns
-returns c = step_kept _ _ c.if-item-lt-FIX.false
+pub returns-else-item-lt-FIX : goal.returns-else-item-lt-FIX
+returns-else-item-lt-FIX c = step_kept _ _ c.if-item-lt-FIX.false

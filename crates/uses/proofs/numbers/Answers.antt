@@ -18,7 +18,7 @@ pub uses-requires : goal.uses-requires
 uses-requires c =
     let fronts = c.requires.roles_len in
     record {
-      booked = ((c.fill.ensures.tabled c.if-not-fill.false).booked, refl);
+      locals_len = refl;
       roles_len = (fronts.0, fronts.1, c.requires.roles_in_bounds.0);
     }
 

@@ -1,7 +1,7 @@
 -- Brackets, braces, commas, semicolons and literals by their bytes (02 §1): one law for each way through the code.
 use Prim.Native.Nat.{ℕ, zero, suc, ◌+◌, ◌-◌, ◌≤◌}
 use native.Mathlib.Omega.{arith}
-use Rattle.std.specs.Prelude.{◌≡◌, Bool, List, [], ◌∷◌, length, drop, ltb}
+use Rattle.std.specs.Prelude.{◌≡◌, Bool, List, [], ◌∷◌, length, drop, ltb, Some, None}
 use Rattle.std.proofs.Math.Path.{refl, sym, ap}
 use Rattle.std.proofs.Common.{◌∙◌, get_or-drop, drop-drop}
 use Rattle.std.proofs.Math.Bool.{true, false}
@@ -23,16 +23,14 @@ use Rattle.text_shape.specs.Roles.{Part.then_close, Part.par_comma, Part.arg_com
 use Rattle.resolve.specs.Digits.{digits_of, word_of, nat_at, int_at}
 use Rattle.resolve.specs.Using.{Use, live, chosen, use_goes, use_closes, use_dies, use_opens, use_part, use_token}
 use Rattle.resolve.specs.UsingAt.{part_at, use_kind}
-use Rattle.resolve.specs.declared.Word.{Word}
-use Rattle.resolve.specs.declared.Word.TheVariants.{Of, Outside}
 use Rattle.uses.specs.Lent.{use_in, Roomy, passed_in, Next}
 use Rattle.uses.specs.Seeing.{lived, word_passed}
 use Rattle.uses.specs.Laws.StackLaws.{next_stop, next_same}
 use Rattle.uses.specs.declared.Scope.{Scope}
-use Rattle.uses.specs.declared.Passed.TheVariants.{On}
 use Rattle.text_shape.specs.RoleNames.{args_close_role, no_args_close_role, body_close_role, then_open_role, then_close_role, arg_comma_role}
 use Rattle.text_shape.specs.RoleNames.{first_part_role}
 use Rattle.tokens.specs.KindNames.{semicolon_kind, int_kind, nat_kind}
+use Rattle.uses.specs.Passed.{Word, onward}
 
 -- By their bytes ---------------------------------------------------------------------------------
 
@@ -115,7 +113,7 @@ module _ (u : Use) where
       back c n h e = omega (arith, h, e)
 
 -- behind a step's body nothing is alive
-pub body_shut : (x l k o : List ℕ) (c : Scope) → passed_in x l k (On (lived c 0 0 0)) o ≡ some (live (use_in x l k c o) [] [] [] 0 [] [])
+pub body_shut : (x l k o : List ℕ) (c : Scope) → passed_in x l k (onward (lived c 0 0 0)) o ≡ some (live (use_in x l k c o) [] [] [] 0 [] [])
 unfolding passed_in use_in live lived
 body_shut x l k o c = let e : length k - (length k - 0) ≡ 0 = omega arith in let f : length k - 0 ≡ length k = omega arith in rw (e) refl
 
@@ -147,7 +145,7 @@ module _ (x l k o : List ℕ) (c : Scope) where
   unfolding literal_meaning
   nat_passed ds = nat_if (ltb (decimal ds) nat_end) (decimal ds)
 
-  pub kind_semicolon : (n : ℕ) (s : List ℕ) → n ≡ semicolon_kind → passed_in x l k (On (lived c c.met c.living c.bodies)) o ≡ use_kind n s used
+  pub kind_semicolon : (n : ℕ) (s : List ℕ) → n ≡ semicolon_kind → passed_in x l k (onward (lived c c.met c.living c.bodies)) o ≡ use_kind n s used
   unfolding passed_in use_in use_kind chosen use_token live lived
   kind_semicolon n s e = rw e refl
 
@@ -167,12 +165,12 @@ module _ (x l k o : List ℕ) (c : Scope) where
     unfolding use_kind chosen use_token nat_at
     kind_nat n e f = ap (λ w. passed_in x l k (word_passed w c) o) e ∙ nat_passed (digits_of (drop at x)) ∙ rw f refl
 
-  pub kind_quiet : (n : ℕ) (s : List ℕ) → (n ≡ semicolon_kind → ⊥) → (n ≡ int_kind → ⊥) → (n ≡ nat_kind → ⊥) → passed_in x l k (On c) o ≡ use_kind n s used
+  pub kind_quiet : (n : ℕ) (s : List ℕ) → (n ≡ semicolon_kind → ⊥) → (n ≡ int_kind → ⊥) → (n ≡ nat_kind → ⊥) → passed_in x l k (onward c) o ≡ use_kind n s used
   unfolding passed_in use_kind chosen
   kind_quiet n s f g h = rw (ne_eqb n semicolon_kind f, ne_eqb n int_kind g, ne_eqb n nat_kind h) refl
 
 -- by a literal's word there is room
 pub next_word : (t l : List ℕ) (c : Scope) → Roomy t l c → (w : Word) → Next t l c (word_passed w c)
 unfolding word_passed
-next_word t l c r (Of n) = next_same t l c r
-next_word t l c r Outside = next_stop t l c r
+next_word t l c r (Some n) = next_same t l c r
+next_word t l c r None = next_stop t l c r

@@ -1,5 +1,5 @@
 -- What names and types do to the pass over uses, in lent memory (02 §1): one law for each way through the code.
-use Rattle.std.specs.Prelude.{ℕ, ◌+◌, ◌-◌, ◌≤◌, ◌<◌, ◌≡◌, Bool, List, [], length, drop, eqb, ltb}
+use Rattle.std.specs.Prelude.{ℕ, ◌+◌, ◌-◌, ◌≤◌, ◌<◌, ◌≡◌, Bool, List, [], length, drop, eqb, ltb, Some, None}
 use Rattle.std.proofs.Common.{arith, ap, ◌∙◌, eqb-true}
 use Rattle.std.proofs.Math.Path.{refl}
 use Rattle.std.proofs.Math.Bool.{true, false}
@@ -17,30 +17,27 @@ use Rattle.resolve.specs.UsingAt.{naming_at}
 use Rattle.uses.specs.Lent.{book_in, use_in, Roomy, passed_in, Next}
 use Rattle.uses.specs.Seeing.{called_among, seen_listed, seen_par, seen_local, seen_first, seen_behind, seen_left, seen_passed, retyped}
 use Rattle.uses.specs.declared.Scope.{Scope}
-use Rattle.uses.specs.declared.Seen.{Seen}
-use Rattle.uses.specs.declared.Seen.TheVariants.{Of, Nothing}
-use Rattle.uses.specs.declared.Passed.{Passed}
-use Rattle.uses.specs.declared.Passed.TheVariants.{On}
 use Rattle.text_shape.specs.RoleNames.{new_struct_role, new_par_role, new_step_role, new_local_role, first_read_role, first_written_role}
 use Rattle.text_shape.specs.RoleNames.{later_variable_role, made_role, made_statement_role, called_role, called_struct_role, called_step_role}
 use Rattle.text_shape.specs.RoleNames.{par_int_role}
+use Rattle.uses.specs.Passed.{Seen, Passed, onward}
 
 -- Names that are looked up -----------------------------------------------------------------------
 
 -- what was seen is left
 pub seen_pass : (x l k o : List ℕ) (c : Scope) (s : Seen) → passed_in x l k (seen_passed c s) o ≡ seen_left (use_in x l k c o) s
 unfolding passed_in use_in seen_passed seen_left leave retyped
-seen_pass x l k o c (Of n b) = refl
-seen_pass x l k o c Nothing = refl
+seen_pass x l k o c (Some (n, b)) = refl
+seen_pass x l k o c None = refl
 
 pub next_seen : (t l : List ℕ) (c : Scope) → Roomy t l c → (s : Seen) → Next t l c (seen_passed c s)
 unfolding Next seen_passed retyped
-next_seen t l c r (Of n b) =
+next_seen t l c r (Some (n, b)) =
     (record { long = r.long; begun = r.begun; met = r.met; living = r.living; fresh = r.fresh; small = r.small }, omega arith)
-next_seen t l c r Nothing = tt
+next_seen t l c r None = tt
 
 module _ (u : Use) where
-  left_if : (t : Bool) (n b : ℕ) → seen_left u (chosen t (Of n b) Nothing) ≡ provided t (some (leave u b n))
+  left_if : (t : Bool) (n b : ℕ) → seen_left u (chosen t (Some (n, b)) None) ≡ provided t (some (leave u b n))
   unfolding seen_left chosen provided
   left_if true n b = refl
   left_if false n b = refl
@@ -62,7 +59,7 @@ module _ (u : Use) where
   left_either true r s p q e f = e
   left_either false r s p q e f = f
 
-  left_only : (t : Bool) (r : Seen) (p : Option Use) → seen_left u r ≡ p → seen_left u (chosen t r Nothing) ≡ provided t p
+  left_only : (t : Bool) (r : Seen) (p : Option Use) → seen_left u r ≡ p → seen_left u (chosen t r None) ≡ provided t p
   unfolding chosen provided seen_left
   left_only true r p e = e
   left_only false r p e = refl
@@ -78,7 +75,7 @@ module _ (u : Use) where
     left_behind : (c : ℕ) → seen_left u (seen_behind b c y) ≡ use_behind b c y u
     unfolding seen_behind use_behind seen_left
     left_behind c =
-        left_either (ltb c struct_code) Nothing _ none _ refl
+        left_either (ltb c struct_code) None _ none _ refl
         (left_only (ltb (c - struct_code) (length b.structs)) _ _
         (left_par (get_or b.rows (c - struct_code) []) (get_or b.types (c - struct_code) []) y))
 
@@ -115,7 +112,7 @@ module _ (x t l k o : List ℕ) (c : Scope) (y : Id) (role : ℕ) where
   unfolding naming_at
   name_struct e = rw e refl
 
-  pub name_par : role ≡ new_par_role → passed_in x l k (On c) o ≡ named role
+  pub name_par : role ≡ new_par_role → passed_in x l k (onward c) o ≡ named role
   unfolding naming_at use_name passed_in
   name_par e = rw e refl
 

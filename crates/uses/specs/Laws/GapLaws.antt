@@ -1,5 +1,5 @@
 -- The pass over uses goes from token to token (02 §1): where no token begins nothing changes but the place.
-use Rattle.std.specs.Prelude.{ℕ, ◌+◌, ◌≤◌, ◌<◌, ◌≡◌, List, length, get_or, set, drop, eqb}
+use Rattle.std.specs.Prelude.{ℕ, ◌+◌, ◌≤◌, ◌<◌, ◌≡◌, List, length, get_or, set, drop, eqb, None, Err}
 use Rattle.std.proofs.Math.Path.{refl}
 use Rattle.std.proofs.Common.{◌∙◌}
 use Rattle.std.proofs.Math.Option.{some}
@@ -12,9 +12,8 @@ use Rattle.uses.specs.Stopping.{stops_at}
 use Rattle.uses.specs.Laws.StackLaws.{next_same}
 use Rattle.uses.specs.Laws.LoopLaws.{Reached, place_none, place_some, reached_on, reached_left, reached_stop, stopped_here}
 use Rattle.uses.specs.declared.Scope.{Scope}
-use Rattle.uses.specs.declared.Passed.{Passed}
-use Rattle.uses.specs.declared.Passed.TheVariants.{Stop, On, Left}
-use Rattle.uses.specs.declared.Numbered.TheVariants.{Nothing}
+use Rattle.uses.specs.Passed.{Passed, onward, leaves}
+use Rattle.uses.specs.declared.NoProgram.{NoProgram}
 
 -- Gaps -------------------------------------------------------------------------------------------
 
@@ -22,7 +21,7 @@ module _ {x roles t l₀ k₀ m₀ l k m : List ℕ} {c : Scope} {n : ℕ} (same
   one_gap : (i : ℕ) → i < length roles → get_or roles i 0 ≡ 0 → Reached x roles t l₀ k₀ m₀ l k m c n i → Reached x roles t l₀ k₀ m₀ l k m c n (i + 1)
   unfolding passed_in
   one_gap i h e r =
-      reached_on x roles t l₀ k₀ m₀ same r h l k (On c)
+      reached_on x roles t l₀ k₀ m₀ same r h l k (onward c)
       (λ o. place_none (book_in x t) (get_or roles i 0) (drop i x) (use_in x l k c o) e)
       (next_same t l c r.room) (refl, refl) refl
 
@@ -39,15 +38,15 @@ module _ {x roles t l₀ k₀ m₀ l k m : List ℕ} {c : Scope} {n i : ℕ} (sa
       ≡ chosen (eqb (get_or roles i 0) 0) (some (use_in x l k c o)) (use_at (book_in x t) (get_or roles i 0) (drop i x) (use_in x l k c o))
   told o = e o ∙ place_some (book_in x t) (get_or roles i 0) (drop i x) (use_in x l k c o) (token inside)
 
-  pub token_here : p ≡ Stop → i ≡ stops_at (book_in x t) x roles use_start
+  pub token_here : p ≡ None → i ≡ stops_at (book_in x t) x roles use_start
   token_here = stopped_here x roles t l₀ k₀ m₀ same r inside l' k' p told g h
 
-  pub token_stop : (m' : List ℕ) (o : ℕ) → p ≡ Stop → numbered_in m' (Nothing o) ≡ used_out (uses_at (book_in x t) x roles use_start)
+  pub token_stop : (m' : List ℕ) (o : NoProgram) → p ≡ None → numbered_in m' (Err o) ≡ used_out (uses_at (book_in x t) x roles use_start)
   token_stop = reached_stop x roles t l₀ k₀ m₀ same r inside l' k' p told g h
 
-  pub token_on : {d : Scope} {j : ℕ} → p ≡ On d → Gap roles (i + 1) j → Reached x roles t l₀ k₀ m₀ l' k' m d n j
+  pub token_on : {d : Scope} {j : ℕ} → p ≡ onward d → Gap roles (i + 1) j → Reached x roles t l₀ k₀ m₀ l' k' m d n j
   token_on f gap = reached_gap same gap (reached_on x roles t l₀ k₀ m₀ same r inside l' k' p told g h f)
 
-  pub token_left : {d : Scope} {v j : ℕ} → p ≡ Left d v → Gap roles (i + 1) j → length roles ≤ length m₀
+  pub token_left : {d : Scope} {v j : ℕ} → p ≡ leaves d v → Gap roles (i + 1) j → length roles ≤ length m₀
       → Reached x roles t l₀ k₀ m₀ l' k' (set m n v) d (n + 1) j
   token_left f gap fits = reached_gap same gap (reached_left x roles t l₀ k₀ m₀ same r inside l' k' p told g h fits f)

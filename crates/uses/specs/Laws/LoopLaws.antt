@@ -2,7 +2,7 @@
 use Prim.Native.Nat.{ℕ, suc, ◌+◌, ◌-◌, ◌≤◌, ◌<◌}
 use native.Mathlib.Omega.{arith}
 use Rattle.std.proofs.Common.{add-one, ◌∙◌, drop-cons}
-use Rattle.std.specs.Prelude.{◌≡◌, get_or, set, eqb}
+use Rattle.std.specs.Prelude.{◌≡◌, get_or, set, eqb, None, Ok, Err}
 use Rattle.std.proofs.Math.Path.{refl, sym, ap}
 use mathlib.Core.List.{List, [], ◌∷◌}
 use Rattle.std.proofs.Math.Option.{some}
@@ -21,12 +21,11 @@ use Rattle.uses.specs.Seeing.{Quiet}
 use Rattle.uses.specs.Laws.BracketLaws.{part_quiet}
 use Rattle.uses.specs.Stopping.{counts_on, stops_at}
 use Rattle.uses.specs.declared.Scope.{Scope}
-use Rattle.uses.specs.declared.Passed.{Passed}
-use Rattle.uses.specs.declared.Passed.TheVariants.{Stop, On, Left}
-use Rattle.uses.specs.declared.Numbered.TheVariants.{Count, Nothing}
 use Rattle.text_shape.specs.RoleNames.{args_close_role, no_args_close_role, body_close_role, first_name_role, first_type_role, first_part_role}
 use Rattle.tokens.specs.KindNames.{semicolon_kind, int_kind, nat_kind}
 use Rattle.uses.specs.Layout.{bytes_end}
+use Rattle.uses.specs.Passed.{Passed, onward, leaves}
+use Rattle.uses.specs.declared.NoProgram.{NoProgram}
 
 -- One place --------------------------------------------------------------------------------------
 
@@ -169,15 +168,15 @@ module _ (x roles t l₀ k₀ m₀ : List ℕ) where
             (ap (λ z. passed_in x l' k' z (held m n)) (sym f) ∙ e (held m n))
             ∙ ap (λ z. i + z) (sym one_stop) ∙ r.stop
 
-        pub stopped_here : p ≡ Stop → i ≡ stops_at book x roles use_start
+        pub stopped_here : p ≡ None → i ≡ stops_at book x roles use_start
         unfolding passed_in counts_on
-        stopped_here f = let w : i + 0 ≡ stops_at book x roles use_start = next_stop Stop f in omega (arith, w)
+        stopped_here f = let w : i + 0 ≡ stops_at book x roles use_start = next_stop None f in omega (arith, w)
 
-        pub reached_stop : (m' : List ℕ) (o : ℕ) → p ≡ Stop → numbered_in m' (Nothing o) ≡ used_out (uses_at book x roles use_start)
+        pub reached_stop : (m' : List ℕ) (o : NoProgram) → p ≡ None → numbered_in m' (Err o) ≡ used_out (uses_at book x roles use_start)
         unfolding passed_in then numbered_in used_out
-        reached_stop m' o f = ap used_out (next_place Stop f)
+        reached_stop m' o f = ap used_out (next_place None f)
 
-        pub reached_on : {d : Scope} → p ≡ On d → Reached x roles t l₀ k₀ m₀ l' k' m d n (i + 1)
+        pub reached_on : {d : Scope} → p ≡ onward d → Reached x roles t l₀ k₀ m₀ l' k' m d n (i + 1)
         unfolding passed_in then Next counts_on
         reached_on {d} f =
             let a : Roomy t l' d × (d.dues + d.bodies ≤ c.dues + c.bodies + 1) = rw f at g in
@@ -189,14 +188,14 @@ module _ (x roles t l₀ k₀ m₀ : List ℕ) where
               locals = h.1 ∙ r.locals;
               stack = h.0 ∙ r.stack;
               numbers = r.numbers;
-              whole = next_place (On d) f;
+              whole = next_place (onward d) f;
               stop =
                   let w : i + suc (stops_at book (drop (i + 1) x) (drop (i + 1) roles) (use_in x l' k' d (held m n))) ≡ stops_at book x roles use_start =
-                  next_stop (On d) f in
+                  next_stop (onward d) f in
                   omega (arith, w);
             }
 
-        pub reached_left : {d : Scope} {v : ℕ} → length roles ≤ length m₀ → p ≡ Left d v → Reached x roles t l₀ k₀ m₀ l' k' (set m n v) d (n + 1) (i + 1)
+        pub reached_left : {d : Scope} {v : ℕ} → length roles ≤ length m₀ → p ≡ leaves d v → Reached x roles t l₀ k₀ m₀ l' k' (set m n v) d (n + 1) (i + 1)
         unfolding passed_in then Next counts_on
         reached_left {d} {v} fits f =
             let a : Roomy t l' d × (d.dues + d.bodies ≤ c.dues + c.bodies + 1) = rw f at g in
@@ -210,15 +209,15 @@ module _ (x roles t l₀ k₀ m₀ : List ℕ) where
               stack = h.0 ∙ r.stack;
               numbers = length-set m n v ∙ r.numbers;
               whole =
-                  ap (λ z. uses_at book (drop (i + 1) x) (drop (i + 1) roles) (use_in x l' k' d z)) b ∙ next_place (Left d v) f;
+                  ap (λ z. uses_at book (drop (i + 1) x) (drop (i + 1) roles) (use_in x l' k' d z)) b ∙ next_place (leaves d v) f;
               stop =
                   let w : i + suc (stops_at book (drop (i + 1) x) (drop (i + 1) roles) (use_in x l' k' d (v ∷ held m n))) ≡ stops_at book x roles use_start =
-                  next_stop (Left d v) f in
+                  next_stop (leaves d v) f in
                   let s = ap (λ z. stops_at book (drop (i + 1) x) (drop (i + 1) roles) (use_in x l' k' d z)) b in
                   omega (arith, w, s);
             }
 
-    pub reached_end : length roles ≤ i → numbered_in m (Count n) ≡ used_out (uses_at book x roles use_start)
+    pub reached_end : length roles ≤ i → numbered_in m (Ok n) ≡ used_out (uses_at book x roles use_start)
     unfolding numbered_in used_out then uses_at use_in
     reached_end h =
         let e : drop i x ≡ [] = drop_of_length-le x {i = i} (omega (arith, h, same)) in

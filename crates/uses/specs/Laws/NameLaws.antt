@@ -1,5 +1,5 @@
 -- A struct begun, a constructor, a declared local, in lent memory (02 §1): one law for each way through the code.
-use Rattle.std.specs.Prelude.{ℕ, ◌+◌, ◌-◌, ◌≤◌, ◌<◌, ◌≡◌, Bool, true, false, ◌&&◌, List, ◌∷◌, length, get_or, set, drop, eqb, leb, ltb}
+use Rattle.std.specs.Prelude.{ℕ, ◌+◌, ◌-◌, ◌≤◌, ◌<◌, ◌≡◌, Bool, true, false, ◌&&◌, List, ◌∷◌, length, get_or, set, drop, eqb, leb, ltb, None}
 use native.Mathlib.Omega.{arith}
 use Rattle.std.proofs.Math.Numerals.{add-one}
 use Rattle.std.proofs.Math.Path.{refl, sym}
@@ -21,8 +21,8 @@ use Rattle.uses.specs.Seeing.{dued, with_local}
 use Rattle.uses.specs.Laws.SeeingLaws.{structs_long, row_long}
 use Rattle.uses.specs.Laws.StackLaws.{heights_stay, rest, rest_names}
 use Rattle.uses.specs.declared.Scope.{Scope}
-use Rattle.uses.specs.declared.Passed.TheVariants.{Stop, On, Left}
 use Rattle.uses.specs.Layout.{declared_end, living_end, numbers_end, bytes_end}
+use Rattle.uses.specs.Passed.{onward, leaves}
 
 -- A struct is begun ------------------------------------------------------------------------------
 
@@ -31,17 +31,17 @@ more c = record { begun = c.begun + 1; met = c.met; living = c.living; fresh = c
 
 module _ (t : List ℕ) (b : Booked t) (c : Scope) where
   pub begin_none : structs_of_table t ≤ c.begun → (x : List ℕ) (y : Id) (l k o : List ℕ)
-      → passed_in x l k Stop o ≡ use_name (book_in x t) new_struct y (use_in x l k c o)
+      → passed_in x l k None o ≡ use_name (book_in x t) new_struct y (use_in x l k c o)
   unfolding passed_in use_in use_name provided
   begin_none h x y l k o = let s = structs_long x t b in rw (le-ltb c.begun (length (book_in x t).structs) (omega (arith, s, h))) refl
 
   pub begin_one : c.begun < structs_of_table t → (x : List ℕ) (y : Id) (l k o : List ℕ)
-      → passed_in x l k (On (more c)) o ≡ use_name (book_in x t) new_struct y (use_in x l k c o)
+      → passed_in x l k (onward (more c)) o ≡ use_name (book_in x t) new_struct y (use_in x l k c o)
   unfolding passed_in use_in use_name provided begin
   begin_one h x y l k o =
       let s = structs_long x t b in rw (lt-ltb c.begun (length (book_in x t).structs) (omega (arith, s, h)), add-one c.begun) refl
 
-  pub next_begun : c.begun < structs_of_table t → (l : List ℕ) → Roomy t l c → Next t l c (On (more c))
+  pub next_begun : c.begun < structs_of_table t → (l : List ℕ) → Roomy t l c → Next t l c (onward (more c))
   unfolding Next
   next_begun h l r = (
     record { long = r.long; begun = omega (arith, h); met = r.met; living = r.living; fresh = r.fresh; small = r.small },
@@ -51,7 +51,7 @@ module _ (t : List ℕ) (b : Booked t) (c : Scope) where
 -- A constructor ----------------------------------------------------------------------------------
 
 module _ (x t : List ℕ) (b : Booked t) (k : List ℕ) (c : Scope) (y : Id) {n : ℕ} (e : n ≡ sought y (names_at x (part_of t 0 (structs_of_table t)))) where
-  pub made_none : structs_of_table t ≤ n → (l o : List ℕ) → passed_in x l k Stop o ≡ use_made (book_in x t) y (use_in x l k c o)
+  pub made_none : structs_of_table t ≤ n → (l o : List ℕ) → passed_in x l k None o ≡ use_made (book_in x t) y (use_in x l k c o)
   unfolding passed_in use_made provided book_in
   made_none h l o =
       let s = structs_long x t b in
@@ -73,13 +73,13 @@ module _ (x t : List ℕ) (b : Booked t) (k : List ℕ) (c : Scope) (y : Id) {n 
         rw (lt-ltb (sought y (book_in x t).structs) (length (book_in x t).structs) (omega (arith, s, h, f)), f, row_long x t b n h) refl
 
     pub made_one : c.dues + c.bodies < length k → (l o : List ℕ)
-        → passed_in x l (set k c.dues long) (Left (dued c (c.dues + 1)) n) o ≡ use_made (book_in x t) y (use_in x l k c o)
+        → passed_in x l (set k c.dues long) (leaves (dued c (c.dues + 1)) n) o ≡ use_made (book_in x t) y (use_in x l k c o)
     unfolding passed_in use_in dued due leave
     made_one room l o =
         rw (held_push k c.dues long (omega (arith, room)), heights_stay k c.dues long c.bodies (omega (arith, room)))
         (sym (made_is (use_in x l k c o)))
 
-pub next_made : (t l : List ℕ) (c : Scope) (n : ℕ) → Roomy t l c → Next t l c (Left (dued c (c.dues + 1)) n)
+pub next_made : (t l : List ℕ) (c : Scope) (n : ℕ) → Roomy t l c → Next t l c (leaves (dued c (c.dues + 1)) n)
 unfolding Next dued
 next_made t l c n r =
     (record { long = r.long; begun = r.begun; met = r.met; living = r.living; fresh = r.fresh; small = r.small }, omega arith)
@@ -200,11 +200,11 @@ module _ (x t l : List ℕ) (c : Scope) (r : Roomy t l c) (at : ℕ) (q : Bool)
         (both_tests (leb c.met (sought y (names_at x (up_to l declared_end c.met)))) (leb (length (own_row (book_in x t).rows c.begun))
         (sought y (own_row (book_in x t).rows c.begun))) q (provided (ltb c.met max_locals) then_live) e)
 
-    pub declare_not : q ≡ false → passed_in x l k Stop o ≡ use_new (book_in x t) y used
+    pub declare_not : q ≡ false → passed_in x l k None o ≡ use_new (book_in x t) y used
     unfolding passed_in provided
     declare_not f = sym (new_is ∙ rw f refl)
 
-    pub declare_full : q ≡ true → max_locals ≤ c.met → passed_in x l k Stop o ≡ use_new (book_in x t) y used
+    pub declare_full : q ≡ true → max_locals ≤ c.met → passed_in x l k None o ≡ use_new (book_in x t) y used
     unfolding passed_in provided
     declare_full f h = sym (new_is ∙ rw (f, le-ltb c.met max_locals h) refl)
 
@@ -213,7 +213,7 @@ module _ (x t l : List ℕ) (c : Scope) (r : Roomy t l c) (at : ℕ) (q : Bool)
     told f h = rw (f, lt-ltb c.met max_locals h) refl
 
     stored : c.met < max_locals
-        → passed_in x (with_local l at c.met (c.living - c.fresh) c.typ) k (Left (declaring c) (first_local + c.met)) o ≡ then_live
+        → passed_in x (with_local l at c.met (c.living - c.fresh) c.typ) k (leaves (declaring c) (first_local + c.met)) o ≡ then_live
     unfolding passed_in use_in live leave
     stored h =
         let less : c.living - c.fresh < max_locals = omega (arith, r.living, h) in
@@ -229,10 +229,10 @@ module _ (x t l : List ℕ) (c : Scope) (r : Roomy t l c) (at : ℕ) (q : Bool)
         refl
 
     pub declare_one : q ≡ true → c.met < max_locals
-        → passed_in x (with_local l at c.met (c.living - c.fresh) c.typ) k (Left (declaring c) (first_local + c.met)) o ≡ use_new (book_in x t) y used
+        → passed_in x (with_local l at c.met (c.living - c.fresh) c.typ) k (leaves (declaring c) (first_local + c.met)) o ≡ use_new (book_in x t) y used
     declare_one f h = stored h ∙ sym (new_is ∙ told f h)
 
-  pub next_declared : c.met < max_locals → (n : ℕ) → Next t (with_local l at c.met (c.living - c.fresh) c.typ) c (Left (declaring c) n)
+  pub next_declared : c.met < max_locals → (n : ℕ) → Next t (with_local l at c.met (c.living - c.fresh) c.typ) c (leaves (declaring c) n)
   unfolding Next
   next_declared h n =
       let less : c.living - c.fresh < max_locals = omega (arith, r.living, h) in (

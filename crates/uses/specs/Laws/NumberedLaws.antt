@@ -1,5 +1,5 @@
 -- The numbers of a text's names (02 §1): its tables tested, and the pass over its places by them.
-use Rattle.std.specs.Prelude.{ℕ, ◌≡◌, refl, Bool, true, false, List}
+use Rattle.std.specs.Prelude.{ℕ, ◌≡◌, refl, Bool, true, false, List, Ok, Err, Result}
 use Rattle.std.proofs.Math.Path.{sym, ap}
 use Rattle.std.proofs.Common.{◌∙◌}
 use Rattle.meaning.specs.Meant.{provided}
@@ -9,12 +9,11 @@ use Rattle.resolve.specs.UsingAt.{uses_at}
 use Rattle.resolve.specs.Resolved.{book_at, resolved}
 use Rattle.uses.specs.Lent.{book_in, numbered_in, Counted, used_out}
 use Rattle.uses.specs.Stopping.{stops_at, of_tables, stops}
-use Rattle.uses.specs.declared.Numbered.{Numbered}
-use Rattle.uses.specs.declared.Numbered.TheVariants.{Count, Nothing}
+use Rattle.uses.specs.declared.NoProgram.{NoProgram}
 
 module _ (x roles : List ℕ) {q : Bool} (e : q ≡ tables_ok x roles) where
   -- declarations that no stream has numbers for
-  pub numbers_none : (m : List ℕ) (p : ℕ) → q ≡ false → numbered_in m (Nothing p) ≡ resolved x roles
+  pub numbers_none : (m : List ℕ) (p : NoProgram) → q ≡ false → numbered_in m (Err p) ≡ resolved x roles
   unfolding numbered_in resolved provided
   numbers_none m p f = sym (rw (sym e ∙ f) refl)
 
@@ -23,7 +22,7 @@ module _ (x roles : List ℕ) {q : Bool} (e : q ≡ tables_ok x roles) where
   stops_first f = sym (rw (sym e ∙ f) refl)
 
   -- and others
-  pub numbers_passed : (m t : List ℕ) (r : Numbered) → q ≡ true → book_in x t ≡ book_at x roles
+  pub numbers_passed : (m t : List ℕ) (r : Result ℕ NoProgram) → q ≡ true → book_in x t ≡ book_at x roles
       → numbered_in m r ≡ used_out (uses_at (book_in x t) x roles use_start) → numbered_in m r ≡ resolved x roles
   unfolding resolved provided used_out
   numbers_passed m t r f g h = h ∙ ap (λ b. used_out (uses_at b x roles use_start)) g ∙ sym (rw (sym e ∙ f) refl)
@@ -32,7 +31,7 @@ module _ (x roles : List ℕ) {q : Bool} (e : q ≡ tables_ok x roles) where
   unfolding stops of_tables
   stops_passed t n f g h = h ∙ ap (λ b. stops_at b x roles use_start) g ∙ sym (rw (sym e ∙ f) refl)
 
-pub counted_with : (m : List ℕ) (r : Numbered) (A : Type 0) → Counted m r (Unit {0}) → A → Counted m r A
+pub counted_with : (m : List ℕ) (r : Result ℕ NoProgram) (A : Type 0) → Counted m r (Unit {0}) → A → Counted m r A
 unfolding Counted
-counted_with m (Count n) A c a = (c.0, a)
-counted_with m (Nothing p) A c a = tt
+counted_with m (Ok n) A c a = (c.0, a)
+counted_with m (Err p) A c a = tt

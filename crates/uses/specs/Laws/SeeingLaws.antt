@@ -1,5 +1,5 @@
 -- What a name stands for, by the tables of a text (02 §1): one law for each way through the code.
-use Rattle.std.specs.Prelude.{ℕ, zero, suc, ◌+◌, ◌-◌, ◌≤◌, ◌<◌, Bool, ◌&&◌, List, [], length, get_or, drop}
+use Rattle.std.specs.Prelude.{ℕ, zero, suc, ◌+◌, ◌-◌, ◌≤◌, ◌<◌, Bool, ◌&&◌, List, [], length, get_or, drop, Some, None, is_some, not}
 use native.Mathlib.Omega.{arith}
 use Rattle.std.proofs.Common.{sub-one, ◌∙◌}
 use Rattle.std.proofs.Math.Path.{◌≡◌, refl, sym, ap}
@@ -18,36 +18,35 @@ use Rattle.uses.specs.Laws.PartLaws.{up_to, map_part, cuts_at, part_at, part_lon
 use Rattle.uses.specs.Lent.{structs_of_table, row_start, row_end, book_in, Booked, use_in, Roomy}
 use Rattle.uses.specs.Seeing.{called_among, seen_listed, seen_par, seen_local, seen_first, seen_behind}
 use Rattle.uses.specs.declared.Scope.{Scope}
-use Rattle.uses.specs.declared.Seen.{Seen}
-use Rattle.uses.specs.declared.Seen.TheVariants.{Of, Nothing}
 use Rattle.text_shape.specs.RoleNames.{called_struct_role}
 use Rattle.types.specs.Limits.{max_locals}
 use Rattle.uses.specs.Layout.{rows_room, offsets_place, pars_place, types_place, names_place, living_end, numbers_end, bytes_end}
+use Rattle.uses.specs.Passed.{Seen}
 
 -- Lists ------------------------------------------------------------------------------------------
 
 module _ (l : List Id) (x : Id) {n m : ℕ} (e : n ≡ sought x l) (h : length l ≡ m) where
-  pub listed_none : (b : ℕ) → m ≤ n → Nothing ≡ seen_listed l x b
+  pub listed_none : (b : ℕ) → m ≤ n → None ≡ seen_listed l x b
   unfolding seen_listed chosen
   listed_none b k = rw (le-ltb (sought x l) (length l) (omega arith)) refl
 
-  pub listed_one : (b : ℕ) → n < m → Of n b ≡ seen_listed l x b
+  pub listed_one : (b : ℕ) → n < m → Some (n, b) ≡ seen_listed l x b
   unfolding seen_listed chosen
   listed_one b k = rw (lt-ltb (sought x l) (length l) (omega arith), ← e) refl
 
-  pub par_none : (ts : List ℕ) → m ≤ n → Nothing ≡ seen_par l ts x
+  pub par_none : (ts : List ℕ) → m ≤ n → None ≡ seen_par l ts x
   unfolding seen_par chosen
   par_none ts k = rw (le-ltb (sought x l) (length l) (omega arith)) refl
 
-  pub par_one : (ts : List ℕ) {v : ℕ} → n < m → v ≡ get_or ts n 0 → Of n v ≡ seen_par l ts x
+  pub par_one : (ts : List ℕ) {v : ℕ} → n < m → v ≡ get_or ts n 0 → Some (n, v) ≡ seen_par l ts x
   unfolding seen_par chosen
   par_one ts k f = rw (lt-ltb (sought x l) (length l) (omega arith), ← e, f) refl
 
-  pub local_none : (ns bs : List ℕ) → m ≤ n → Nothing ≡ seen_local l ns bs x
+  pub local_none : (ns bs : List ℕ) → m ≤ n → None ≡ seen_local l ns bs x
   unfolding seen_local chosen
   local_none ns bs k = rw (le-ltb (sought x l) (length l) (omega arith)) refl
 
-  pub local_one : (ns bs : List ℕ) {v w : ℕ} → n < m → v ≡ get_or ns n 0 → w ≡ get_or bs n 0 → Of (first_local + v) w ≡ seen_local l ns bs x
+  pub local_one : (ns bs : List ℕ) {v w : ℕ} → n < m → v ≡ get_or ns n 0 → w ≡ get_or bs n 0 → Some (first_local + v, w) ≡ seen_local l ns bs x
   unfolding seen_local chosen
   local_one ns bs k f g = rw (lt-ltb (sought x l) (length l) (omega arith), ← e, f, g) refl
 
@@ -87,6 +86,12 @@ module _ (x t : List ℕ) (b : Booked t) (k : ℕ) (inside : k < structs_of_tabl
       let h = b.rows k inside in
       sym (cut_at (part_of t types_place names_place) ∙ part_part t types_place names_place (row_start t k) (row_end t k) (omega (arith, h.inner)))
 
+  pub row_names : length (names_at x (part_of t (pars_place + row_start t k) (pars_place + row_end t k)))
+      ≡ (pars_place + row_end t k) - (pars_place + row_start t k)
+  row_names =
+      let h = b.rows k inside in
+      mapped_long (name_at x) t (pars_place + row_start t k) (pars_place + row_end t k) (omega (arith, h.inner, b.long))
+
   pub row_long : length (get_or (book_in x t).rows k []) ≡ row_end t k - row_start t k
   row_long =
       let h = b.rows k inside in
@@ -99,11 +104,11 @@ module _ (x t : List ℕ) (b : Booked t) (k : ℕ) (inside : k < structs_of_tabl
     found = e ∙ ap (sought y) row_in
 
     pub parameter_none : (pars_place + row_end t k) - (pars_place + row_start t k) ≤ n
-        → Nothing ≡ seen_par (get_or (book_in x t).rows k []) (get_or (book_in x t).types k []) y
+        → None ≡ seen_par (get_or (book_in x t).rows k []) (get_or (book_in x t).types k []) y
     parameter_none h = par_none (get_or (book_in x t).rows k []) y found row_long (get_or (book_in x t).types k []) (omega (arith, h))
 
     pub parameter_one : n < (pars_place + row_end t k) - (pars_place + row_start t k)
-        → Of n (get_or t (pars_place + row_start t k + n + rows_room) 0) ≡ seen_par (get_or (book_in x t).rows k []) (get_or (book_in x t).types k []) y
+        → Some (n, get_or t (pars_place + row_start t k + n + rows_room) 0) ≡ seen_par (get_or (book_in x t).rows k []) (get_or (book_in x t).types k []) y
     parameter_one h =
         let i : pars_place + row_start t k + n + rows_room ≡ types_place + row_start t k + n = omega arith in
         let v : get_or t (pars_place + row_start t k + n + rows_room) 0 ≡ get_or (get_or (book_in x t).types k []) n 0 =
@@ -114,6 +119,11 @@ module _ (x t : List ℕ) (b : Booked t) (k : ℕ) (inside : k < structs_of_tabl
 -- Counts of a book --------------------------------------------------------------------------------
 
 module _ (x t : List ℕ) (b : Booked t) where
+  pub struct_names : length (names_at x (part_of t 0 (structs_of_table t))) ≡ structs_of_table t
+  struct_names =
+      let e : structs_of_table t - 0 ≡ structs_of_table t = omega arith in
+      mapped_long (name_at x) t 0 (structs_of_table t) (omega (arith, b.long, b.structs)) ∙ e
+
   pub structs_long : length (book_in x t).structs ≡ structs_of_table t
   unfolding book_in
   structs_long =
@@ -124,16 +134,16 @@ module _ (x t : List ℕ) (b : Booked t) where
 
 module _ (x l : List ℕ) (n : ℕ) (long : length l ≡ bytes_end) (few : n ≤ max_locals) (y : Id) {k : ℕ}
     (e : k ≡ sought y (names_at x (part_of l (living_end - n) living_end))) where
-  alive_long : length (names_at x (up_to l living_end n)) ≡ n
+  pub alive_long : length (names_at x (up_to l living_end n)) ≡ n
   alive_long =
       let e : living_end - (living_end - n) ≡ n = omega (arith, few) in
       mapped_long (name_at x) l (living_end - n) living_end (omega (arith, long)) ∙ e
 
-  pub alive_none : n ≤ k → Nothing ≡ seen_local (names_at x (up_to l living_end n)) (up_to l numbers_end n) (up_to l bytes_end n) y
+  pub alive_none : n ≤ k → None ≡ seen_local (names_at x (up_to l living_end n)) (up_to l numbers_end n) (up_to l bytes_end n) y
   alive_none h = local_none (names_at x (up_to l living_end n)) y e alive_long (up_to l numbers_end n) (up_to l bytes_end n) h
 
   pub alive_one : k < n
-      → Of (first_local + get_or l (living_end - n + k + max_locals) 0) (get_or l (living_end - n + k + living_end) 0)
+      → Some (first_local + get_or l (living_end - n + k + max_locals) 0, get_or l (living_end - n + k + living_end) 0)
       ≡ seen_local (names_at x (up_to l living_end n)) (up_to l numbers_end n) (up_to l bytes_end n) y
   alive_one h =
       let i : living_end - n + k + max_locals ≡ numbers_end - n + k = omega (arith, few) in
@@ -192,33 +202,33 @@ module _ (x t l : List ℕ) (c : Scope) (r : Roomy t l c) (y : Id) where
           ap (λ m. seen_par m (get_or b.types (c.begun - 1) []) y) (own_some b.rows c.begun n)
           ∙ ap (λ m. seen_par (own_row b.rows c.begun) m y) (own_some b.types c.begun n)
 
-      pub first_own : {k v : ℕ} → Of k v ≡ own → Of k v ≡ seen_first b y used
+      pub first_own : {k v : ℕ} → Some (k, v) ≡ own → Some (k, v) ≡ seen_first b y used
       unfolding seen_first seen_par chosen
       first_own {k} {v} e = go (ltb (sought y (own_row b.rows used.begun)) (length (own_row b.rows used.begun))) refl (e ∙ own_is)
         where
           go : (q : Bool) → ltb (sought y (own_row b.rows used.begun)) (length (own_row b.rows used.begun)) ≡ q
-              → Of k v ≡ seen_par (own_row b.rows used.begun) (own_row b.types used.begun) y → Of k v ≡ seen_first b y used
+              → Some (k, v) ≡ seen_par (own_row b.rows used.begun) (own_row b.types used.begun) y → Some (k, v) ≡ seen_first b y used
           go true f g = rw f (rw f at g)
           go false f g = absurd (let h = rw f at g in let z : ◌≡◌ {A = ℕ} 0 1 = cc in omega arith)
 
-      pub first_alive : Nothing ≡ own → living_seen ≡ seen_first b y used
+      pub first_alive : None ≡ own → living_seen ≡ seen_first b y used
       unfolding seen_first seen_par chosen
       first_alive e = go (ltb (sought y (own_row b.rows used.begun)) (length (own_row b.rows used.begun))) refl (e ∙ own_is)
         where
           go : (q : Bool) → ltb (sought y (own_row b.rows used.begun)) (length (own_row b.rows used.begun)) ≡ q
-              → Nothing ≡ seen_par (own_row b.rows used.begun) (own_row b.types used.begun) y → living_seen ≡ seen_first b y used
+              → None ≡ seen_par (own_row b.rows used.begun) (own_row b.types used.begun) y → living_seen ≡ seen_first b y used
           go false f g = rw f alive_part
           go true f g = absurd (let h = rw f at g in let z : ◌≡◌ {A = ℕ} 0 1 = cc in omega arith)
 
 -- Later variables ---------------------------------------------------------------------------------
 
 module _ (b : Book) (c : ℕ) (y : Id) where
-  pub later_basic : c < struct_code → Nothing ≡ seen_behind b c y
+  pub later_basic : c < struct_code → None ≡ seen_behind b c y
   unfolding seen_behind chosen
   later_basic h = rw (lt-ltb c struct_code h) refl
 
   module _ (h : struct_code ≤ c) {s : ℕ} (e : length b.structs ≡ s) where
-    pub later_none : s ≤ c - struct_code → Nothing ≡ seen_behind b c y
+    pub later_none : s ≤ c - struct_code → None ≡ seen_behind b c y
     unfolding seen_behind chosen
     later_none k = rw (le-ltb c struct_code h, le-ltb (c - struct_code) (length b.structs) (omega arith)) refl
 
@@ -243,21 +253,27 @@ module _ (b : Book) (n : ℕ) (y : Id) where
     same_row : (q : Bool) → q ≡ leb (length met_row) (sought y met_row) → q ≡ leb (length row) (sought y row)
     same_row q e = e ∙ ap (λ m. leb (length m) (sought y m)) (own_some b.rows n h)
 
-    pub in_row : {k v : ℕ} (ts : List ℕ) → Of k v ≡ seen_par met_row ts y → false ≡ leb (length row) (sought y row)
+    pub in_row : {k v : ℕ} (ts : List ℕ) → Some (k, v) ≡ seen_par met_row ts y → false ≡ leb (length row) (sought y row)
     unfolding seen_par chosen
     in_row {k} {v} ts e = same_row false (go (ltb (sought y met_row) (length met_row)) refl e)
       where
-        go : (q : Bool) → ltb (sought y met_row) (length met_row) ≡ q → Of k v ≡ seen_par met_row ts y → false ≡ leb (length met_row) (sought y met_row)
+        go : (q : Bool) → ltb (sought y met_row) (length met_row) ≡ q → Some (k, v) ≡ seen_par met_row ts y → false ≡ leb (length met_row) (sought y met_row)
         go true f g = sym (lt-leb (length met_row) (sought y met_row) (ltb-true (sought y met_row) (length met_row) f))
         go false f g = absurd (let h = rw f at g in let z : ◌≡◌ {A = ℕ} 0 1 = cc in omega arith)
 
-    pub out_row : (ts : List ℕ) → Nothing ≡ seen_par met_row ts y → true ≡ leb (length row) (sought y row)
+    pub out_row : (ts : List ℕ) → None ≡ seen_par met_row ts y → true ≡ leb (length row) (sought y row)
     unfolding seen_par chosen
     out_row ts e = same_row true (go (ltb (sought y met_row) (length met_row)) refl e)
       where
-        go : (q : Bool) → ltb (sought y met_row) (length met_row) ≡ q → Nothing ≡ seen_par met_row ts y → true ≡ leb (length met_row) (sought y met_row)
+        go : (q : Bool) → ltb (sought y met_row) (length met_row) ≡ q → None ≡ seen_par met_row ts y → true ≡ leb (length met_row) (sought y met_row)
         go false f g = sym (le-leb (length met_row) (sought y met_row) (ltb-false (sought y met_row) (length met_row) f))
         go true f g = absurd (let h = rw f at g in let z : ◌≡◌ {A = ℕ} 0 1 = cc in omega arith)
+
+    pub off_row : (ts : List ℕ) (o : Seen) (q : Bool) → o ≡ seen_par met_row ts y → is_some o ≡ not q → q ≡ leb (length row) (sought y row)
+    off_row ts None true e f = out_row ts e
+    off_row ts None false e f = absurd (let z : ◌≡◌ {A = ℕ} 0 1 = cc in omega arith)
+    off_row ts (Some (k, v)) false e f = in_row ts e
+    off_row ts (Some (k, v)) true e f = absurd (let z : ◌≡◌ {A = ℕ} 0 1 = cc in omega arith)
 
 -- a name met before, and not
 pub met_one : (m k n : ℕ) (q : Bool) → n ≡ k → n < m → false ≡ (leb m k && q)

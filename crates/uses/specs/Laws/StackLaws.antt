@@ -2,14 +2,14 @@
 use Prim.Native.Nat.{ℕ, zero, suc, ◌+◌, ◌-◌, ◌≤◌, ◌<◌}
 use native.Mathlib.Omega.{arith}
 use Rattle.std.proofs.Math.Numerals.{sub-one}
-use Rattle.std.specs.Prelude.{◌≡◌, set}
+use Rattle.std.specs.Prelude.{◌≡◌, set, min, Bool, true, false, ltb, None}
 use Rattle.std.proofs.Math.Path.{refl, sym, ap}
 use Rattle.std.proofs.Common.{◌∙◌, length-set, drop-cons}
 use mathlib.Core.List.{List, [], ◌∷◌}
 use Rattle.std.proofs.Math.Option.{some}
 use Rattle.std.proofs.Math.ListN.{length, get_or, take, drop}
 use Rattle.std.proofs.lemmas.List.{length-map}
-use borrow.Author.Tests.{eq-eqb, ne_eqb}
+use borrow.Author.Tests.{eq-eqb, ne_eqb, ltb-true, ltb-false}
 use Rattle.types.proofs.Laws.ListLaws.{map_drop}
 use Rattle.derive.specs.Held.{held}
 use Rattle.derive.specs.HeldLaws.{held_set, held_push}
@@ -20,9 +20,9 @@ use Rattle.uses.specs.Laws.PartLaws.{up_to, mapped_long, part_behind, up_to_more
 use Rattle.uses.specs.Lent.{use_in, Roomy, passed_in, Next}
 use Rattle.uses.specs.Seeing.{dued, lived}
 use Rattle.uses.specs.declared.Scope.{Scope}
-use Rattle.uses.specs.declared.Passed.TheVariants.{Stop, On}
 use Rattle.types.specs.Limits.{max_locals}
 use Rattle.uses.specs.Layout.{living_end, numbers_end, bytes_end}
+use Rattle.uses.specs.Passed.{onward}
 
 held_top : (k : List ℕ) (d : ℕ) → (d ≡ 0 → ⊥) → held k d ≡ get_or k (d - 1) 0 ∷ held k (d - 1)
 unfolding held
@@ -62,20 +62,20 @@ heights_stay k i v b h = ap (λ z. up_to (set k i v) z b) (length-set k i v) ∙
 -- Room -------------------------------------------------------------------------------------------
 
 module _ (t l : List ℕ) (c : Scope) (r : Roomy t l c) where
-  pub next_stop : Next t l c Stop
+  pub next_stop : Next t l c None
   unfolding Next
   next_stop = tt
 
-  pub next_same : Next t l c (On c)
+  pub next_same : Next t l c (onward c)
   unfolding Next
   next_same = (r, omega arith)
 
-  pub next_dued : (n : ℕ) → n ≤ c.dues + 1 → Next t l c (On (dued c n))
+  pub next_dued : (n : ℕ) → n ≤ c.dues + 1 → Next t l c (onward (dued c n))
   unfolding Next dued
   next_dued n h =
       (record { long = r.long; begun = r.begun; met = r.met; living = r.living; fresh = r.fresh; small = r.small }, omega arith)
 
-  pub next_lived : (m n b : ℕ) → m ≤ max_locals → n ≤ m → n ≤ c.living → b ≤ c.bodies + 1 → Next t l c (On (lived c m n b))
+  pub next_lived : (m n b : ℕ) → m ≤ max_locals → n ≤ m → n ≤ c.living → b ≤ c.bodies + 1 → Next t l c (onward (lived c m n b))
   unfolding Next lived
   next_lived m n b g h i j = (
     record {
@@ -95,23 +95,23 @@ module _ (x l k o : List ℕ) (c : Scope) where
   abbrev used : Use
   used = use_in x l k c o
 
-  pub close_none : (n : ℕ) → c.dues ≡ 0 → passed_in x l k Stop o ≡ use_closes n used used.dues
+  pub close_none : (n : ℕ) → c.dues ≡ 0 → passed_in x l k None o ≡ use_closes n used used.dues
   unfolding passed_in use_in use_closes held
   close_none n e = rw e refl
 
-  pub close_other : (n : ℕ) → (c.dues ≡ 0 → ⊥) → (get_or k (c.dues - 1) 0 ≡ n → ⊥) → passed_in x l k Stop o ≡ use_closes n used used.dues
+  pub close_other : (n : ℕ) → (c.dues ≡ 0 → ⊥) → (get_or k (c.dues - 1) 0 ≡ n → ⊥) → passed_in x l k None o ≡ use_closes n used used.dues
   unfolding passed_in use_in use_closes provided
   close_other n h i = rw (held_top k c.dues h, ne_eqb n (get_or k (c.dues - 1) 0) (λ e. i (sym e))) refl
 
-  pub close_one : (n : ℕ) → (c.dues ≡ 0 → ⊥) → get_or k (c.dues - 1) 0 ≡ n → passed_in x l k (On (dued c (c.dues - 1))) o ≡ use_closes n used used.dues
+  pub close_one : (n : ℕ) → (c.dues ≡ 0 → ⊥) → get_or k (c.dues - 1) 0 ≡ n → passed_in x l k (onward (dued c (c.dues - 1))) o ≡ use_closes n used used.dues
   unfolding passed_in use_in use_closes provided due dued
   close_one n h i = rw (held_top k c.dues h, eq-eqb n (get_or k (c.dues - 1) 0) (sym i)) refl
 
-  pub go_none : c.dues ≡ 0 → passed_in x l k Stop o ≡ use_goes used used.dues
+  pub go_none : c.dues ≡ 0 → passed_in x l k None o ≡ use_goes used used.dues
   unfolding passed_in use_in use_goes held
   go_none e = rw e refl
 
-  pub go_zero : (c.dues ≡ 0 → ⊥) → get_or k (c.dues - 1) 0 ≡ 0 → passed_in x l k Stop o ≡ use_goes used used.dues
+  pub go_zero : (c.dues ≡ 0 → ⊥) → get_or k (c.dues - 1) 0 ≡ 0 → passed_in x l k None o ≡ use_goes used used.dues
   unfolding passed_in use_in use_goes
   go_zero h e = rw (held_top k c.dues h, e) refl
 
@@ -121,7 +121,7 @@ module _ (x l k o : List ℕ) (c : Scope) where
   goes_on (suc m) d h = rw sub-one refl
 
   pub go_one : (c.dues ≡ 0 → ⊥) → (get_or k (c.dues - 1) 0 ≡ 0 → ⊥) → c.dues + c.bodies ≤ length k
-      → passed_in x l (set k (c.dues - 1) (get_or k (c.dues - 1) 0 - 1)) (On c) o ≡ use_goes used used.dues
+      → passed_in x l (set k (c.dues - 1) (get_or k (c.dues - 1) 0 - 1)) (onward c) o ≡ use_goes used used.dues
   unfolding passed_in use_in due
   go_one h i room =
       let v : ℕ = get_or k (c.dues - 1) 0 - 1 in
@@ -153,7 +153,7 @@ module _ (x l k o : List ℕ) (c : Scope) {t : List ℕ} (r : Roomy t l c) where
       ap length (sym rest_names) ∙ mapped_long (name_at x) l (living_end - alive) living_end (omega (arith, r.long)) ∙ e
 
   pub opened : c.dues + c.bodies < length k
-      → passed_in x l (set k (length k - (c.bodies + 1)) alive) (On (lived c c.met alive (c.bodies + 1))) o ≡ some (use_opens passing)
+      → passed_in x l (set k (length k - (c.bodies + 1)) alive) (onward (lived c c.met alive (c.bodies + 1))) o ≡ some (use_opens passing)
   unfolding passed_in use_in use_opens live lived
   opened room =
       let i : ℕ = length k - (c.bodies + 1) in
@@ -163,7 +163,7 @@ module _ (x l k o : List ℕ) (c : Scope) {t : List ℕ} (r : Roomy t l c) where
       ∙ up_to_more k (length k) c.bodies alive (omega (arith, room)) (omega arith) in
       rw (f, g, rest_names, rest numbers_end (omega arith), rest bytes_end (omega arith), rest_long) refl
 
-  pub shut_none : c.bodies ≡ 0 → passed_in x l k Stop o ≡ use_dies passing passing.heights
+  pub shut_none : c.bodies ≡ 0 → passed_in x l k None o ≡ use_dies passing passing.heights
   unfolding passed_in use_in use_dies
   shut_none e =
       let i : length k - (length k - c.bodies) ≡ 0 = omega (arith, e) in
@@ -186,7 +186,7 @@ module _ (x l k o : List ℕ) (c : Scope) {t : List ℕ} (r : Roomy t l c) where
     height = get_or k (length k - c.bodies) 0
 
     pub shut_less : height < c.living
-        → passed_in x l k (On (lived c c.met height (c.bodies - 1))) o ≡ use_dies passing passing.heights
+        → passed_in x l k (onward (lived c c.met height (c.bodies - 1))) o ≡ use_dies passing passing.heights
     unfolding passed_in use_in use_dies live lived
     shut_less h =
         let a = r.living in
@@ -201,7 +201,7 @@ module _ (x l k o : List ℕ) (c : Scope) {t : List ℕ} (r : Roomy t l c) where
         refl
 
     pub shut_all : c.living ≤ height
-        → passed_in x l k (On (lived c c.met c.living (c.bodies - 1))) o ≡ use_dies passing passing.heights
+        → passed_in x l k (onward (lived c c.met c.living (c.bodies - 1))) o ≡ use_dies passing passing.heights
     unfolding passed_in use_in use_dies live lived
     shut_all h =
         let a = r.living in
@@ -216,3 +216,17 @@ module _ (x l k o : List ℕ) (c : Scope) {t : List ℕ} (r : Roomy t l c) where
           last_all (up_to l bytes_end c.living) height (omega (arith, h, g)),
         )
         refl
+
+    -- the fewer of both are alive
+    pub shut : {m b : ℕ} → b ≡ c.bodies - 1 → m ≡ min c.living height → passed_in x l k (onward (lived c c.met m b)) o ≡ use_dies passing passing.heights
+    shut {m} {b} e f = ap (λ z. passed_in x l k (onward (lived c c.met m z)) o) e ∙ go (ltb height c.living) refl
+      where
+        go : (t : Bool) → ltb height c.living ≡ t → passed_in x l k (onward (lived c c.met m (c.bodies - 1))) o ≡ use_dies passing passing.heights
+        go true g =
+            let h = ltb-true height c.living g in
+            let i : m ≡ height = omega (arith, f, h) in
+            ap (λ z. passed_in x l k (onward (lived c c.met z (c.bodies - 1))) o) i ∙ shut_less h
+        go false g =
+            let h = ltb-false height c.living g in
+            let i : m ≡ c.living = omega (arith, f, h) in
+            ap (λ z. passed_in x l k (onward (lived c c.met z (c.bodies - 1))) o) i ∙ shut_all h

@@ -1,7 +1,7 @@
 -- Types behind declarations and null, in lent memory (02 §1): one law for each way through the code.
 use Prim.Native.Nat.{ℕ, zero, suc, ◌+◌, ◌-◌, ◌≤◌, ◌<◌}
 use Rattle.std.proofs.Common.{arith, ◌∙◌, lt-ltb, le-ltb}
-use Rattle.std.specs.Prelude.{◌≡◌, List, [], ◌∷◌, get_or, ltb}
+use Rattle.std.specs.Prelude.{◌≡◌, List, [], ◌∷◌, get_or, ltb, Some, None}
 use Rattle.std.proofs.Math.Path.{refl, ap}
 use Rattle.std.proofs.Math.Option.{Option, some}
 use Rattle.std.proofs.Math.ListN.{length}
@@ -18,10 +18,8 @@ use Rattle.uses.specs.Seeing.{seen_left, seen_passed}
 use Rattle.uses.specs.Laws.SeeingLaws.{structs_long}
 use Rattle.uses.specs.Laws.ChangeLaws.{seen_pass}
 use Rattle.uses.specs.declared.Scope.{Scope}
-use Rattle.uses.specs.declared.Seen.TheVariants.{Of}
-use Rattle.uses.specs.declared.Passed.{Passed}
-use Rattle.uses.specs.declared.Passed.TheVariants.{Stop}
 use Rattle.text_shape.specs.RoleNames.{local_int_role, null_int_role, first_type_role, first_part_role}
+use Rattle.uses.specs.Passed.{Passed}
 
 abbrev numbers : List ℕ
 numbers = 0 ∷ 1 ∷ 2 ∷ 3 ∷ 0 ∷ 1 ∷ 2 ∷ 3 ∷ 0 ∷ 1 ∷ 2 ∷ 3 ∷ []
@@ -95,7 +93,7 @@ module _ (x t : List ℕ) (b : Booked t) (c : Scope) (role : ℕ) (low : local_i
     now = use_in x l k c o
 
     pub type_none : struct_code + structs_of_table t ≤ n
-        → passed_in x l k Stop o ≡ use_type (book_in x t) (typed_at role) (type_here (number_at role) s) now
+        → passed_in x l k None o ≡ use_type (book_in x t) (typed_at role) (type_here (number_at role) s) now
     unfolding passed_in provided
     type_none h =
         let m = structs_long x t b in
@@ -103,13 +101,13 @@ module _ (x t : List ℕ) (b : Booked t) (c : Scope) (role : ℕ) (low : local_i
         rw (le-ltb (byte_of (book_in x t).structs (type_here (number_at role) s)) (struct_code + length (book_in x t).structs) (omega (arith, g, m, h))) at
         (typed_is (book_in x t) (type_here (number_at role) s) now role low high)
 
-    pub type_one : {r : Passed} → n < struct_code + structs_of_table t → r ≡ seen_passed c (Of n n)
+    pub type_one : {r : Passed} → n < struct_code + structs_of_table t → r ≡ seen_passed c (Some (n, n))
         → passed_in x l k r o ≡ use_type (book_in x t) (typed_at role) (type_here (number_at role) s) now
     unfolding seen_left provided
     type_one {r} h i =
         let m = structs_long x t b in
         let g = there in
-        ap (λ z. passed_in x l k z o) i ∙ seen_pass x l k o c (Of n n) ∙ ap (λ z. some (leave now z z)) g
+        ap (λ z. passed_in x l k z o) i ∙ seen_pass x l k o c (Some (n, n)) ∙ ap (λ z. some (leave now z z)) g
         ∙ (rw
         (lt-ltb (byte_of (book_in x t).structs (type_here (number_at role) s)) (struct_code + length (book_in x t).structs) (omega (arith, g, m, h))) at
         (typed_is (book_in x t) (type_here (number_at role) s) now role low high))

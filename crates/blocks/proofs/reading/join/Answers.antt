@@ -1,5 +1,4 @@
--- `reading::join` meets its contract. The loop's invariant: the used payloads of the first k blocks have been joined. The measure is what is left of the
--- n blocks.
+-- `reading::join` meets its contract. The loop's invariant: the used payloads of the first k blocks have been joined.
 use Rattle.std.proofs.Common.{◌≤◌, ◌-◌, ◌≡◌, ◌∙◌, ap, sym, refl, length, arith}
 use Rattle.block.specs.Put.{put}
 use Rattle.block.proofs.Laws.PutLaws.{put_nil}
@@ -10,7 +9,7 @@ use Rattle.blocks.proofs.reading.join.Goals as goal
 
 pub loop-k-init : goal.loop-k-init
 unfolding joined
-loop-k-init c = (omega arith, (refl, sym (put_nil _ _)))
+loop-k-init c = (refl, sym (put_nil _ _))
 
 pub pair_at-used-requires : goal.pair_at-used-requires
 pair_at-used-requires c =
@@ -42,19 +41,16 @@ loop-k-preserved c =
     let x = args.image.now in let k = c.loop-k.k in let d = args.buffer.now in
     let inv = c.loop-k.invariant in
     let part = part_at x k _ _ c.pair_at-used.ensures.0 c.payload.ensures in (
-      omega arith,
-      (
-        c.copy.auto.dst ∙ inv.1.0,
-        join_turn _ x c.requires.image_len c.requires.all_right k c.loop-k-test.true d _ _ _ c.requires.n_in_bounds
-            inv.1.1 part c.copy.ensures,
-      ),
+      c.copy.auto.dst ∙ inv.0,
+      join_turn _ x c.requires.image_len c.requires.all_right k c.loop-k-test.true d _ _ _ c.requires.n_in_bounds
+          inv.1 part c.copy.ensures,
     )
 
 pub shape_of-buffer : goal.shape_of-buffer
-shape_of-buffer c = c.loop-k.invariant.1.0
+shape_of-buffer c = c.loop-k.invariant.0
 
 pub returns : goal.returns
 returns c =
     let args = c.args in
     let e : c.loop-k.k ≡ args.n = omega arith in
-    c.loop-k.invariant.1.1 ∙ ap (λ k. put args.buffer.now 0 (joined args.image.now k)) e
+    c.loop-k.invariant.1 ∙ ap (λ k. put args.buffer.now 0 (joined args.image.now k)) e

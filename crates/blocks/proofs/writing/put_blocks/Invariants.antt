@@ -1,11 +1,8 @@
-use Rattle.std.proofs.Common.{◌≤◌, ◌-◌, ◌≡◌, ◌∙◌, length}
+use Rattle.std.proofs.Common.{◌≡◌, length}
 use Rattle.block.specs.Put.{put}
 use Rattle.blocks.specs.Images.{image_of}
 use Rattle.blocks.proofs.writing.put_blocks.Given as goal
 
 abbrev pub invariant-loop-k : goal.invariant-loop-k
 invariant-loop-k l =
-    (l.k ≤ l.n) × ((length l.out ≡ length l.initial.out) × (l.out ≡ put l.initial.out 0 (image_of l.stream l.k)))
-
-abbrev pub decreases-loop-k : goal.decreases-loop-k
-decreases-loop-k l = l.n - l.k
+    (length l.out ≡ length l.initial.out) × (l.out ≡ put l.initial.out 0 (image_of l.stream l.k))

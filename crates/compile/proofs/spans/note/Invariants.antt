@@ -1,11 +1,8 @@
-use Rattle.std.proofs.Common.{◌-◌, ◌≤◌, ◌≡◌, length}
+use Rattle.std.proofs.Common.{◌-◌, ◌≡◌, length}
 use Rattle.directory.specs.Rows.{rows_from}
 use Rattle.compile.specs.Spans.{noted}
 use Rattle.compile.proofs.spans.note.Given as goal
 
 abbrev pub invariant-loop-i : goal.invariant-loop-i
 invariant-loop-i l =
-    (l.i ≤ l.n) × (length l.spans ≡ length l.initial.spans) × (l.spans ≡ noted (rows_from l.rows l.i (l.n - l.i)) l.initial.spans)
-
-abbrev pub decreases-loop-i : goal.decreases-loop-i
-decreases-loop-i l = l.i
+    (length l.spans ≡ length l.initial.spans) × (l.spans ≡ noted (rows_from l.rows l.i (l.n - l.i)) l.initial.spans)

@@ -3,4 +3,4 @@ use Rattle.compile.specs.SpansLaws.{row_paired}
 use Rattle.compile.proofs.spans.note_row.Goals as goal
 
 pub returns : goal.returns
-returns c = row_paired c.args.r _ _ _ _ c.place.ensures.0 c.place-2.ensures.0 c.pair.ensures
+returns c = row_paired c.args.r _ _ _ _ c.from.ensures c.from-2.ensures c.pair.ensures

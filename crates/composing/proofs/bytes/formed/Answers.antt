@@ -12,8 +12,8 @@ returns-then-b-eq0 c =
       near = near_within 1 0 0 (near_same args.p) (omega arith) (omega arith) (omega arith);
     }
 
-pub returns : goal.returns
-returns c =
+pub returns-else-b-eq0 : goal.returns-else-b-eq0
+returns-else-b-eq0 c =
     let args = c.args in
     record {
       by_index = λ w n. c.wrote.ensures.by_index w n ∙ formed_some args.b (stands args.out.now w n args.p) c.if-b-eq0.false;

@@ -1,4 +1,4 @@
--- `header::row` meets its contract. The loop's invariant: the bytes from i on stand in front of the place. Its measure is i.
+-- `header::row` meets its contract. The loop's invariant: the bytes from i on stand in front of the place.
 use Rattle.std.proofs.Common.{◌-◌, arith, ◌∙◌, length-set}
 use Rattle.composing.specs.RowLaws.{RowReached, row_start, row_on, row_left, row_end}
 use Rattle.composing.proofs.header.row.Goals as goal

@@ -4,6 +4,3 @@ use Rattle.composing.proofs.header.row.Given as goal
 
 abbrev pub invariant-loop-i : goal.invariant-loop-i
 invariant-loop-i l = (l.a ≤ l.i) × RowReached l.initial.out l.types l.out l.place l.b l.p l.i
-
-abbrev pub decreases-loop-i : goal.decreases-loop-i
-decreases-loop-i l = l.i

@@ -1,8 +1,5 @@
 use Rattle.composing.specs.PouringLaws.{Pouring}
 use Rattle.composing.proofs.pouring.poured.Given as goal
 
-abbrev pub invariant-loop-h : goal.invariant-loop-h
-invariant-loop-h l = Pouring l.initial.out l.stack l.p l.t l.out l.at l.h
-
-abbrev pub decreases-loop-h : goal.decreases-loop-h
-decreases-loop-h l = l.h
+abbrev pub invariant-loop-i : goal.invariant-loop-i
+invariant-loop-i l = Pouring l.initial.out l.stack l.p l.t l.out l.place l.i

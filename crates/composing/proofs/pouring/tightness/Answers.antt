@@ -1,21 +1,22 @@
--- `pouring::tightness` meets its contract: one law for each way.
+-- `pouring::tightness` meets its contract: one law for each range.
+use Rattle.std.proofs.Common.{arith}
 use Rattle.composing.specs.PouringLaws.{tight_none, tight_comparison, tight_product, tight_sum, tight_and, tight_or}
 use Rattle.composing.proofs.pouring.tightness.Goals as goal
 
-pub returns-then-c-eq0 : goal.returns-then-c-eq0
-returns-then-c-eq0 c = tight_none c.args.c c.if-c-eq0.true
+pub returns-in-0 : goal.returns-in-0
+returns-in-0 c = tight_none c.args.c c.in-0.is
 
-pub returns-then-c-lt-MUL : goal.returns-then-c-lt-MUL
-returns-then-c-lt-MUL c = tight_comparison c.args.c c.if-c-eq0.false c.if-c-lt-MUL.true
+pub returns-in-1-to-37 : goal.returns-in-1-to-37
+returns-in-1-to-37 c = tight_comparison c.args.c (λ e. omega arith) (omega arith)
 
-pub returns-then-c-lt-ADD : goal.returns-then-c-lt-ADD
-returns-then-c-lt-ADD c = tight_product c.args.c c.if-c-eq0.false c.if-c-lt-MUL.false c.if-c-lt-ADD.true
+pub returns-in-38-to-40 : goal.returns-in-38-to-40
+returns-in-38-to-40 c = tight_product c.args.c (λ e. omega arith) (omega arith) (omega arith)
 
-pub returns-then-c-lt-AND : goal.returns-then-c-lt-AND
-returns-then-c-lt-AND c = tight_sum c.args.c c.if-c-eq0.false c.if-c-lt-ADD.false c.if-c-lt-AND.true
+pub returns-in-41-to-42 : goal.returns-in-41-to-42
+returns-in-41-to-42 c = tight_sum c.args.c (λ e. omega arith) (omega arith) (omega arith)
 
-pub returns-then-c-lt-OR : goal.returns-then-c-lt-OR
-returns-then-c-lt-OR c = tight_and c.args.c c.if-c-eq0.false c.if-c-lt-AND.false c.if-c-lt-OR.true
+pub returns-in-43 : goal.returns-in-43
+returns-in-43 c = tight_and c.args.c (λ e. omega arith) (omega arith) (omega arith)
 
-pub returns : goal.returns
-returns c = tight_or c.args.c c.if-c-eq0.false c.if-c-lt-OR.false
+pub returns-in_default : goal.returns-in_default
+returns-in_default c = tight_or c.args.c (λ e. omega arith) (omega arith)

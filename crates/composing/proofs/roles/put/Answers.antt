@@ -25,7 +25,7 @@ formed-r-requires c =
 
 pub mark-requires-4 : goal.mark-requires-4
 mark-requires-4 c =
-    (c.requires.marks_value, omega arith, omega (arith, c.if-c-ge-COUNT.false))
+    (omega arith, omega (arith, c.if-c-ge-COUNT.false))
 
 pub overflow_add-c-2 : goal.overflow_add-c-2
 overflow_add-c-2 c = omega (arith, c.if-c-ge-COUNT.false)

@@ -1,6 +1,6 @@
 -- `count::all` and `count::one` meet their contracts. The measure is the number of commands held, twice, with the sum above its summands. The invariant of the
 -- loop over labels: memory is as it was, and what is counted with what is left comes to all.
-use Rattle.std.proofs.Common.{◌+◌, ◌-◌, ◌*◌, ◌≤◌, ◌≡◌}
+use Rattle.std.proofs.Common.{◌+◌, ◌*◌, ◌≤◌, ◌≡◌}
 use Rattle.layout.specs.State.{state_of}
 use Rattle.counting.specs.Counting.{commands_in, Sums}
 use Rattle.counting.proofs.count.+all_one.Given as goal
@@ -15,6 +15,3 @@ abbrev pub invariant-all-loop-h : goal.invariant-all-loop-h
 invariant-all-loop-h l =
     (l.h ≤ l.n) × (l.n ≡ l.machine.numbers.count) × (l.heads ≡ l.initial.heads) × (l.cells ≡ l.initial.cells)
     × (Sums l.counts l.list l.a (state_of l.machine.numbers l.initial.heads l.initial.cells) l.h l.sum)
-
-abbrev pub decreases-all-loop-h : goal.decreases-all-loop-h
-decreases-all-loop-h l = l.n - l.h

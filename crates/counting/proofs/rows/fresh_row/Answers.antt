@@ -8,6 +8,6 @@ pub returns-then-count-lt-MAX_INSTANCES : goal.returns-then-count-lt-MAX_INSTANC
 unfolding fresh_row
 returns-then-count-lt-MAX_INSTANCES c = rw (fresh_row, lt-ltb c.args.count max_instances c.if-count-lt-MAX_INSTANCES.true)
 
-pub returns : goal.returns
+pub returns-else-count-lt-MAX_INSTANCES : goal.returns-else-count-lt-MAX_INSTANCES
 unfolding fresh_row
-returns c = rw (fresh_row, le-ltb c.args.count max_instances c.if-count-lt-MAX_INSTANCES.false)
+returns-else-count-lt-MAX_INSTANCES c = rw (fresh_row, le-ltb c.args.count max_instances c.if-count-lt-MAX_INSTANCES.false)

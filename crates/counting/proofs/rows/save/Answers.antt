@@ -6,10 +6,10 @@ pub returns : goal.returns
 returns c =
     let at = c.stored_at-at.ensures in (
       record {
-        actor = c.numbers_of-actor.ensures;
-        fresh = c.numbers_of-fresh.ensures;
-        row = c.row_of-row.ensures;
-        other = c.row_of-other.ensures;
+        actor = c.part-actor.ensures;
+        fresh = c.part-fresh.ensures;
+        row = c.part-row.ensures;
+        other = c.part-other.ensures;
         at = at.0;
         cell = ap (λ (r : ℕ). get_or c.args.cells.now r 0) at.0;
       },

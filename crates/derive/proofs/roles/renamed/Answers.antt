@@ -1,28 +1,28 @@
 -- `roles::renamed` meets its contract: one law for each state and kind.
+use Rattle.std.proofs.Common.{arith}
 use Rattle.derive.specs.RoleWays.{name_type, name_made, name_kept, id_made, id_kept, step_struct, step_kept, none_waits}
 use Rattle.derive.proofs.roles.renamed.Goals as goal
 
-pub returns-then-k-eq-NAME : goal.returns-then-k-eq-NAME
-returns-then-k-eq-NAME c = name_type c.if-q-eq-BEHIND_NAME.true c.if-k-eq-NAME.true
+pub returns-in-14-eq36-clause-value : goal.returns-in-14-eq36-clause-value
+returns-in-14-eq36-clause-value c = name_type c.in-14-eq36.is-0 c.in-14-eq36.is-1
 
-pub returns-then-k-eq-LPAR : goal.returns-then-k-eq-LPAR
-returns-then-k-eq-LPAR c = name_made c.if-q-eq-BEHIND_NAME.true c.if-k-eq-NAME.false c.if-k-eq-LPAR.true
+pub returns-in-14-eq13-clause-value : goal.returns-in-14-eq13-clause-value
+returns-in-14-eq13-clause-value c = name_made c.in-14-eq13.is-0 (omega arith) c.in-14-eq13.is-1
 
-pub returns-then-q-eq-BEHIND_NAME : goal.returns-then-q-eq-BEHIND_NAME
-returns-then-q-eq-BEHIND_NAME c = name_kept c.if-q-eq-BEHIND_NAME.true c.if-k-eq-NAME.false c.if-k-eq-LPAR.false
+pub returns-in-24-eq13-clause-value : goal.returns-in-24-eq13-clause-value
+returns-in-24-eq13-clause-value c = id_made c.in-24-eq13.is-0 c.in-24-eq13.is-1
 
-pub returns-then-k-eq-LPAR-2 : goal.returns-then-k-eq-LPAR-2
-returns-then-k-eq-LPAR-2 c = id_made c.if-q-eq-BEHIND_ID.true c.if-k-eq-LPAR-2.true
+pub returns-in-30-eq21-clause-value : goal.returns-in-30-eq21-clause-value
+returns-in-30-eq21-clause-value c = step_struct c.in-30-eq21.is-0 c.in-30-eq21.is-1
 
-pub returns-then-q-eq-BEHIND_ID : goal.returns-then-q-eq-BEHIND_ID
-returns-then-q-eq-BEHIND_ID c = id_kept c.if-q-eq-BEHIND_ID.true c.if-k-eq-LPAR-2.false
+pub returns-in_default-clause-value : goal.returns-in_default-clause-value
+returns-in_default-clause-value c = name_kept c.in_default.is-0 (omega arith) (omega arith)
 
-pub returns-then-k-eq-DOT : goal.returns-then-k-eq-DOT
-returns-then-k-eq-DOT c = step_struct c.if-q-eq-BEHIND_EXECUTION.true c.if-k-eq-DOT.true
+pub returns-in_default-2-clause-value : goal.returns-in_default-2-clause-value
+returns-in_default-2-clause-value c = id_kept c.in_default.is-0 (omega arith)
 
-pub returns-else-k-eq-DOT : goal.returns-else-k-eq-DOT
-returns-else-k-eq-DOT c = step_kept c.if-q-eq-BEHIND_EXECUTION.true c.if-k-eq-DOT.false
+pub returns-in_default-3-clause-value : goal.returns-in_default-3-clause-value
+returns-in_default-3-clause-value c = step_kept c.in_default.is-0 (omega arith)
 
-pub returns-else-q-eq-BEHIND_EXECUTION : goal.returns-else-q-eq-BEHIND_EXECUTION
-returns-else-q-eq-BEHIND_EXECUTION c =
-    none_waits _ _ c.if-q-eq-BEHIND_NAME.false c.if-q-eq-BEHIND_ID.false c.if-q-eq-BEHIND_EXECUTION.false
+pub returns-in_default-4-clause-value : goal.returns-in_default-4-clause-value
+returns-in_default-4-clause-value c = none_waits _ _ (omega arith) (omega arith) (omega arith)

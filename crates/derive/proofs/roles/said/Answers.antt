@@ -7,6 +7,6 @@ pub returns-then-m-eq-BY_KIND : goal.returns-then-m-eq-BY_KIND
 unfolding said
 returns-then-m-eq-BY_KIND c = rw (said, eq-eqb _ 95 c.if-m-eq-BY_KIND.true)
 
-pub returns : goal.returns
+pub returns-else-m-eq-BY_KIND : goal.returns-else-m-eq-BY_KIND
 unfolding said
-returns c = rw (said, ne_eqb _ 95 c.if-m-eq-BY_KIND.false)
+returns-else-m-eq-BY_KIND c = rw (said, ne_eqb _ 95 c.if-m-eq-BY_KIND.false)

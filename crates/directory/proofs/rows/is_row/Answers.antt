@@ -7,6 +7,6 @@ pub returns-then-r-structure : goal.returns-then-r-structure
 unfolding is_row
 returns-then-r-structure c = simp (is_row, eq-eqb _ _ c.if-r-structure.true)
 
-pub returns : goal.returns
+pub returns-else-r-structure : goal.returns-else-r-structure
 unfolding is_row
-returns c = simp (is_row, ne_eqb _ _ c.if-r-structure.false)
+returns-else-r-structure c = simp (is_row, ne_eqb _ _ c.if-r-structure.false)

@@ -1,6 +1,6 @@
 -- `emit::stmts` meets its contracts, a law for each kind. The measure goes by the levels of if, with a body, a block and an if above its
 -- statements. The invariant of the loop over these: once those that are left are written, all are.
-use Rattle.std.proofs.Common.{length, ◌<◌, ◌+◌, arith, ◌∙◌}
+use Rattle.std.proofs.Common.{◌+◌, ◌-◌, ◌≡◌, get_or, length, ◌<◌, arith, ◌∙◌}
 use Rattle.emit.specs.Written.{Ready, body_words, body_at as body-from}
 use Rattle.emit.specs.Laws.WrittenLaws.{placed_kept}
 use Rattle.emit.specs.Laws.PartsLaws.{part_ready, part_same, parts_ready, parts_next, parts_same, rest_all}
@@ -35,7 +35,7 @@ pub block-coded-v-requires : goal.block-coded-v-requires
 block-coded-v-requires t c =
     let block_known' : (c.args.k < length c.args.out.now) × (Ready body_words (body-from c.args.ar.now c.args.s.now c.args.depth c.args.at) c.args.out.now (c.args.k + 1)) = block_ready _ c.requires.good c.requires in
     let b = block_known' in
-    (omega arith, omega arith, omega (arith, c.body-p.ensures.at, b.1.few))
+    (omega arith, omega (arith, c.body-p.ensures.at, b.1.few))
 
 pub block-store-requires : goal.block-store-requires
 block-store-requires t c =
@@ -59,30 +59,25 @@ body-overflow_add-p t c =
     let body_known' : BodyFacts c.args.ar.now c.args.s.now c.args.depth c.args.at = body_facts _ _ _ _ c.requires.good in
     omega (arith, body_known')
 
-pub body-loop-left-init : goal.body-loop-left-init
-body-loop-left-init t c =
-    let body_known' : BodyFacts c.args.ar.now c.args.s.now c.args.depth c.args.at = body_facts _ _ _ _ c.requires.good in
-    rest_all _ (part_ready body_known'.part c.requires)
+pub body-loop-x-init : goal.body-loop-x-init
+body-loop-x-init t c =
+    let whole : get_or c.args.s.now c.args.at 0 - 0 ≡ get_or c.args.s.now c.args.at 0 = omega arith in rw whole (let body_known' : BodyFacts c.args.ar.now c.args.s.now c.args.depth c.args.at = body_facts _ _ _ _ c.requires.good in
+    rest_all _ (part_ready body_known'.part c.requires))
 
 pub body-stmt-p-requires : goal.body-stmt-p-requires
-body-stmt-p-requires t c = (omega (arith, c.decreases), stmts_ready _ _ _ _ c.loop-left.invariant c.loop-left-test.true)
+body-stmt-p-requires t c = (omega (arith, c.decreases), stmts_ready _ _ _ _ c.loop-x.invariant (λ z. omega arith))
 
-pub body-overflow_sub-left : goal.body-overflow_sub-left
-body-overflow_sub-left t c = omega (arith, c.loop-left-test.true)
-
-pub body-loop-left-smaller : goal.body-loop-left-smaller
-body-loop-left-smaller t c = omega (arith, c.loop-left-test.true)
-
-pub body-loop-left-preserved : goal.body-loop-left-preserved
-body-loop-left-preserved t c = stmts_next _ _ _ _ c.loop-left.invariant c.loop-left-test.true c.stmt-p.ensures
+pub body-loop-x-preserved : goal.body-loop-x-preserved
+body-loop-x-preserved t c =
+    let one : get_or c.args.s.now c.args.at 0 - (c.loop-x.x + 1) ≡ get_or c.args.s.now c.args.at 0 - c.loop-x.x - 1 = omega arith in rw one (stmts_next _ _ _ _ c.loop-x.invariant (λ z. omega arith) c.stmt-p.ensures)
 
 pub body-shape_of-out : goal.body-shape_of-out
-body-shape_of-out t c = c.loop-left.invariant.kept
+body-shape_of-out t c = c.loop-x.invariant.kept
 
 pub body-returns : goal.body-returns
 body-returns t c =
     let body_known' : BodyFacts c.args.ar.now c.args.s.now c.args.depth c.args.at = body_facts _ _ _ _ c.requires.good in
-    part_same body_known'.part (stmts_none _ _ _ _ c.loop-left.invariant c.loop-left-test.false)
+    part_same body_known'.part (stmts_none _ _ _ _ c.loop-x.invariant (omega arith))
 
 pub stmt-bounds-s-at : goal.stmt-bounds-s-at
 stmt-bounds-s-at t c = omega (arith, stmt_in _ _ _ _ c.requires.good)
@@ -92,58 +87,46 @@ stmt-overflow_add-at t c = omega (arith, stmt_in _ _ _ _ c.requires.good)
 
 pub stmt-overflow_sub-depth : goal.stmt-overflow_sub-depth
 stmt-overflow_sub-depth t c =
-    let w = when_part _ _ _ _ c.requires.good c.if-tag-eq-WHEN.true in
+    let w = when_part _ _ _ _ c.requires.good c.in-1.is in
     omega (arith, w.0)
 
 pub stmt-when-requires : goal.stmt-when-requires
 stmt-when-requires t c =
-    let w = when_part _ _ _ _ c.requires.good c.if-tag-eq-WHEN.true in
+    let w = when_part _ _ _ _ c.requires.good c.in-1.is in
     (omega (arith, c.decreases, w.0), part_ready w.1 c.requires)
 
-pub stmt-shape_of-out-then-tag-eq-WHEN : goal.stmt-shape_of-out-then-tag-eq-WHEN
-stmt-shape_of-out-then-tag-eq-WHEN t c = placed_kept c.when.ensures
+pub stmt-returns-in-1 : goal.stmt-returns-in-1
+stmt-returns-in-1 t c = part_same (when_part _ _ _ _ c.requires.good c.in-1.is).1 c.when.ensures
 
-pub stmt-returns-then-tag-eq-WHEN : goal.stmt-returns-then-tag-eq-WHEN
-stmt-returns-then-tag-eq-WHEN t c = part_same (when_part _ _ _ _ c.requires.good c.if-tag-eq-WHEN.true).1 c.when.ensures
-
-pub stmt-overflow_add-at-then-tag-eq-DECLARE : goal.stmt-overflow_add-at-then-tag-eq-DECLARE
-stmt-overflow_add-at-then-tag-eq-DECLARE t c = omega (arith, stmt_in _ _ _ _ c.requires.good)
+pub stmt-overflow_add-at-in-2 : goal.stmt-overflow_add-at-in-2
+stmt-overflow_add-at-in-2 t c = omega (arith, stmt_in _ _ _ _ c.requires.good)
 
 pub stmt-declare-requires : goal.stmt-declare-requires
-stmt-declare-requires t c = part_ready (declare_part _ _ _ _ c.requires.good c.if-tag-eq-DECLARE.true) c.requires
+stmt-declare-requires t c = part_ready (declare_part _ _ _ _ c.requires.good c.in-2.is) c.requires
 
-pub stmt-shape_of-out-then-tag-eq-DECLARE : goal.stmt-shape_of-out-then-tag-eq-DECLARE
-stmt-shape_of-out-then-tag-eq-DECLARE t c = placed_kept c.declare.ensures
+pub stmt-returns-in-2 : goal.stmt-returns-in-2
+stmt-returns-in-2 t c = part_same (declare_part _ _ _ _ c.requires.good c.in-2.is) c.declare.ensures
 
-pub stmt-returns-then-tag-eq-DECLARE : goal.stmt-returns-then-tag-eq-DECLARE
-stmt-returns-then-tag-eq-DECLARE t c = part_same (declare_part _ _ _ _ c.requires.good c.if-tag-eq-DECLARE.true) c.declare.ensures
-
-pub stmt-overflow_add-at-then-tag-eq-UPDATE : goal.stmt-overflow_add-at-then-tag-eq-UPDATE
-stmt-overflow_add-at-then-tag-eq-UPDATE t c = omega (arith, stmt_in _ _ _ _ c.requires.good)
+pub stmt-overflow_add-at-in-3 : goal.stmt-overflow_add-at-in-3
+stmt-overflow_add-at-in-3 t c = omega (arith, stmt_in _ _ _ _ c.requires.good)
 
 pub stmt-update-requires : goal.stmt-update-requires
-stmt-update-requires t c = part_ready (updated_part _ _ _ _ c.requires.good c.if-tag-eq-UPDATE.true) c.requires
+stmt-update-requires t c = part_ready (updated_part _ _ _ _ c.requires.good c.in-3.is) c.requires
 
-pub stmt-shape_of-out-then-tag-eq-UPDATE : goal.stmt-shape_of-out-then-tag-eq-UPDATE
-stmt-shape_of-out-then-tag-eq-UPDATE t c = placed_kept c.update.ensures
+pub stmt-returns-in-3 : goal.stmt-returns-in-3
+stmt-returns-in-3 t c = part_same (updated_part _ _ _ _ c.requires.good c.in-3.is) c.update.ensures
 
-pub stmt-returns-then-tag-eq-UPDATE : goal.stmt-returns-then-tag-eq-UPDATE
-stmt-returns-then-tag-eq-UPDATE t c = part_same (updated_part _ _ _ _ c.requires.good c.if-tag-eq-UPDATE.true) c.update.ensures
-
-pub stmt-overflow_add-at-2 : goal.stmt-overflow_add-at-2
-stmt-overflow_add-at-2 t c = omega (arith, stmt_in _ _ _ _ c.requires.good)
+pub stmt-overflow_add-at-in_default : goal.stmt-overflow_add-at-in_default
+stmt-overflow_add-at-in_default t c = omega (arith, stmt_in _ _ _ _ c.requires.good)
 
 pub stmt-make-requires : goal.stmt-make-requires
 stmt-make-requires t c =
-    part_ready (create_part _ _ _ _ c.requires.good c.if-tag-eq-WHEN.false c.if-tag-eq-DECLARE.false c.if-tag-eq-UPDATE.false)
+    part_ready (create_part _ _ _ _ c.requires.good (omega arith) (omega arith) (omega arith))
     c.requires
 
-pub stmt-shape_of-out : goal.stmt-shape_of-out
-stmt-shape_of-out t c = placed_kept c.make.ensures
-
-pub stmt-returns : goal.stmt-returns
-stmt-returns t c =
-    part_same (create_part _ _ _ _ c.requires.good c.if-tag-eq-WHEN.false c.if-tag-eq-DECLARE.false c.if-tag-eq-UPDATE.false)
+pub stmt-returns-in_default : goal.stmt-returns-in_default
+stmt-returns-in_default t c =
+    part_same (create_part _ _ _ _ c.requires.good (omega arith) (omega arith) (omega arith))
     c.make.ensures
 
 pub when-expr-p-requires : goal.when-expr-p-requires

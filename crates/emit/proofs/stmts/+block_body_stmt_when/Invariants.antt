@@ -1,4 +1,4 @@
-use Rattle.std.proofs.Common.{◌+◌, ◌*◌}
+use Rattle.std.proofs.Common.{◌+◌, ◌-◌, ◌*◌}
 use Rattle.emit.specs.Written.{body_words, stmts_at as stmts-from}
 use Rattle.emit.specs.Parts.{Rest}
 use Rattle.emit.proofs.stmts.+block_body_stmt_when.Given as goal
@@ -15,9 +15,6 @@ decreases-stmt l = 4 * l.depth
 abbrev pub decreases-when : goal.decreases-when
 decreases-when l = 4 * l.depth + 3
 
-abbrev pub invariant-body-loop-left : goal.invariant-body-loop-left
-invariant-body-loop-left l =
-    Rest body_words (stmts-from l.ar l.s l.depth l.initial.left (l.at + 1)) l.initial.out l.k (stmts-from l.ar l.s l.depth l.left l.p.next) l.p l.out
-
-abbrev pub decreases-body-loop-left : goal.decreases-body-loop-left
-decreases-body-loop-left l = l.left
+abbrev pub invariant-body-loop-x : goal.invariant-body-loop-x
+invariant-body-loop-x l =
+    Rest body_words (stmts-from l.ar l.s l.depth l.n (l.at + 1)) l.initial.out l.k (stmts-from l.ar l.s l.depth (l.n - l.x) l.p.next) l.p l.out

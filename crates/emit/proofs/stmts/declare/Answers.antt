@@ -42,4 +42,4 @@ returns c =
     let known' : DeclareFacts c.args.ar.now c.args.s.now c.args.at = declare_facts _ _ _ c.requires.good in
     let f = known' in
     declare_wrote f.part c.expr-p.ensures c.coded-v.ensures c.add-q.ensures
-    (c.coded-w.ensures ∙ rw c.wide.ensures.0 refl) c.add.ensures
+    (c.coded-w.ensures ∙ rw c.from.ensures refl) c.add.ensures

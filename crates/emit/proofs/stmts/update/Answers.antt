@@ -15,25 +15,25 @@ bounds-s-at c =
 pub overflow_add-at : goal.overflow_add-at
 overflow_add-at c =
     let u = update_part _ _ _ c.requires.good in
-    omega (arith, path_facts _ _ u.0, c.index-n.ensures.0)
+    omega (arith, path_facts _ _ u.0, c.from-n.ensures)
 
 pub overflow_add-at-2 : goal.overflow_add-at-2
 overflow_add-at-2 c =
     let u = update_part _ _ _ c.requires.good in
-    omega (arith, path_facts _ _ u.0, c.index-n.ensures.0)
+    omega (arith, path_facts _ _ u.0, c.from-n.ensures)
 
 pub expr-p-requires : goal.expr-p-requires
 expr-p-requires c =
     let u = update_part _ _ _ c.requires.good in
-    rw c.index-n.ensures.0 (part_ready u.1 c.requires)
+    rw c.from-n.ensures (part_ready u.1 c.requires)
 
 pub target-q-requires : goal.target-q-requires
 target-q-requires c =
     let a = c.args in
     let u = update_part _ _ _ c.requires.good in
-    part_rest target_words (read_path a.s.now a.at) u.1 u.0 c.requires (rw c.index-n.ensures.0 at c.expr-p.ensures)
+    part_rest target_words (read_path a.s.now a.at) u.1 u.0 c.requires (rw c.from-n.ensures at c.expr-p.ensures)
 
 pub returns : goal.returns
 returns c =
     let a = c.args in let u = update_part _ _ _ c.requires.good in
-    update_wrote a.ar.now a.s.now a.at u.1 (rw c.index-n.ensures.0 at c.expr-p.ensures) c.target-q.ensures
+    update_wrote a.ar.now a.s.now a.at u.1 (rw c.from-n.ensures at c.expr-p.ensures) c.target-q.ensures

@@ -10,7 +10,7 @@ word_at-v-requires c = leaf_word_in c.args.s.now c.args.at c.requires.1 c.if-tag
 
 pub returns-then-tag-lt-BOOL : goal.returns-then-tag-lt-BOOL
 returns-then-tag-lt-BOOL c =
-    leaf_word_is c.args.s.now c.args.at c.if-tag-lt-BOOL.true c.word_at-v.ensures.0 c.wide.ensures.0
+    leaf_word_is c.args.s.now c.args.at c.if-tag-lt-BOOL.true c.word_at-v.ensures.0 c.from.ensures
     c.coded.ensures
 
 pub bounds-s-at-then-tag-lt-THIS : goal.bounds-s-at-then-tag-lt-THIS
@@ -19,7 +19,7 @@ bounds-s-at-then-tag-lt-THIS c = leaf_byte_in c.args.s.now c.args.at c.requires.
 pub returns-then-tag-lt-NULL : goal.returns-then-tag-lt-NULL
 returns-then-tag-lt-NULL c =
     leaf_bool_is c.args.s.now c.args.at c.if-tag-lt-BOOL.false c.if-tag-lt-THIS.true c.if-tag-lt-NULL.true
-    c.wide-then-tag-lt-NULL.ensures.0 c.coded-then-tag-lt-NULL.ensures
+    c.from-then-tag-lt-NULL-2.ensures (rw c.from-then-tag-lt-NULL.ensures at c.coded-then-tag-lt-NULL.ensures)
 
 pub returns-then-tag-lt-THIS : goal.returns-then-tag-lt-THIS
 returns-then-tag-lt-THIS c =

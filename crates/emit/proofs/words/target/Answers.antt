@@ -68,4 +68,4 @@ pub returns : goal.returns
 returns c =
     let a = c.args in
     target_wrote a.s.now a.at a.k a.out.now c.requires.good c.coded-v.ensures c.store.ensures
-    c.reads-p.ensures c.wide.ensures.0 c.coded-w.ensures c.store-2.ensures refl refl
+    c.reads-p.ensures c.from.ensures c.coded-w.ensures c.store-2.ensures refl refl

@@ -16,9 +16,6 @@ returns-then-turns-taken c =
     let a = c.args in
     c.resting-then-turns-taken.ensures ∙ sym (at_last a.turns.now a.machine a.taken a.actor held' c.if-turns-taken.true)
 
-pub overflow_cast-e : goal.overflow_cast-e
-overflow_cast-e c = omega (arith, c.type_inv.turns c.args.taken)
-
 pub nonzero_rem-result : goal.nonzero_rem-result
 nonzero_rem-result c =
     let held' : 0 < c.args.machine.numbers.holding = some_due c.args.machine.numbers _ c.due.ensures (ap not c.if-not-due.false) in
@@ -28,4 +25,4 @@ pub returns : goal.returns
 returns c =
     let held' : 0 < c.args.machine.numbers.holding = some_due c.args.machine.numbers _ c.due.ensures (ap not c.if-not-due.false) in
     let a = c.args in
-    sym (at_turn a.turns.now a.machine a.taken a.actor held' c.if-turns-taken.false)
+    rw c.from-e.ensures (sym (at_turn a.turns.now a.machine a.taken a.actor held' c.if-turns-taken.false))

@@ -5,12 +5,12 @@ use Rattle.interpreter.specs.Laws.GoingLaws.{turns_left}
 use Rattle.interpreter.specs.Laws.RunWays.{Stays}
 use Rattle.interpreter.proofs.turns.run.Given as goal
 
-abbrev pub invariant-loop-next : goal.invariant-loop-next
-invariant-loop-next l =
+abbrev pub invariant-passages : goal.invariant-passages
+invariant-passages l =
     (length l.heads ≡ length l.initial.heads)
     × (length l.cells ≡ length l.initial.cells)
-    × ((z : State) → Stays l.counts l.list l.items l.spans l.turns z l.initial.next (memory_of l.initial.next l.initial.heads l.initial.cells)
-    → Stays l.counts l.list l.items l.spans l.turns z l.next (memory_of l.next l.heads l.cells))
+    × ((z : State) → Stays l.program.counts.now l.program.list.now l.program.items.now l.program.spans.now l.turns z l.initial.next (memory_of l.initial.next l.initial.heads l.initial.cells)
+    → Stays l.program.counts.now l.program.list.now l.program.items.now l.program.spans.now l.turns z l.next (memory_of l.next l.heads l.cells))
 
-abbrev pub decreases-loop-next : goal.decreases-loop-next
-decreases-loop-next l = turns_left l.turns l.next
+abbrev pub decreases-passages : goal.decreases-passages
+decreases-passages l = turns_left l.turns l.next

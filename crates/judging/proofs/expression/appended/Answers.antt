@@ -4,4 +4,4 @@ use Rattle.judging.proofs.expression.appended.Goals as goal
 
 pub returns : goal.returns
 unfolding appended
-returns c = simp (appended, c.worst.ensures, c.higher.ensures, c.demand-own.ensures)
+returns c = simp (appended, c.worst.ensures, c.max.ensures, c.from.ensures, c.demand-own.ensures)

@@ -12,7 +12,7 @@ returns c =
       c.gives.ensures,
       c.demand.ensures,
       c.worst.ensures,
-      c.higher.ensures,
+      c.max.ensures,
       c.takes-right.ensures,
       sort_form _ o e,
       add-one,

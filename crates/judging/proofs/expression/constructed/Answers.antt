@@ -5,4 +5,4 @@ use Rattle.judging.proofs.expression.constructed.Goals as goal
 
 pub returns : goal.returns
 unfolding constructed
-returns c = simp (constructed, c.higher.ensures, add-one)
+returns c = simp (constructed, c.max.ensures, add-one)

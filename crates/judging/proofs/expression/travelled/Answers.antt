@@ -5,4 +5,4 @@ use Rattle.judging.proofs.expression.travelled.Goals as goal
 
 pub returns : goal.returns
 unfolding travelled
-returns c = simp (travelled, add-one)
+returns c = simp (travelled, c.from.ensures, add-one)

@@ -2,15 +2,16 @@
 use Rattle.std.proofs.Common.{eq-eqb, ne_eqb}
 use Rattle.judge.specs.Facts.{demand}
 use Rattle.judging.proofs.fault.demand.Goals as goal
+use Rattle.judging.proofs.fault.demand.Goals.{then-fault-ne0-via-then-fault-ne0, then-fault-ne0-via-else-fault-ne0+then-right}
 
 pub returns-then-fault-ne0 : goal.returns-then-fault-ne0
 unfolding demand
-returns-then-fault-ne0 c = simp (demand, ne_eqb _ _ c.if-fault-ne0.true)
-
-pub returns-then-right : goal.returns-then-right
-unfolding demand
-returns-then-right c = simp (demand, eq-eqb _ _ c.if-fault-ne0.false, c.if-right.true)
+returns-then-fault-ne0 c =
+    elim c.then-fault-ne0.branch [
+      | then-fault-ne0-via-then-fault-ne0 w ↦ simp (demand, ne_eqb _ _ w.if-fault-ne0.true)
+      | then-fault-ne0-via-else-fault-ne0+then-right w ↦ simp (demand, eq-eqb _ _ w.if-fault-ne0.false, w.if-right.true) w.if-fault-ne0.false
+    ]
 
 pub returns : goal.returns
 unfolding demand
-returns c = simp (demand, eq-eqb _ _ c.if-fault-ne0.false, c.if-right.false)
+returns c = simp (demand, c.from.ensures, eq-eqb _ _ c.if-fault-ne0.false, c.if-right.false)

@@ -8,4 +8,4 @@ returns-then-right c = simp (named, c.if-right.true)
 
 pub returns : goal.returns
 unfolding named
-returns c = simp (named, c.if-right.false)
+returns c = simp (named, c.from.ensures, c.if-right.false)

@@ -10,8 +10,8 @@ returns-then-j-ne0 c = simp (lead_by, ne_eqb _ _ c.if-j-ne0.true)
 
 pub returns-then-j-lt-STRUCT : goal.returns-then-j-lt-STRUCT
 unfolding lead_by
-returns-then-j-lt-STRUCT c = simp (lead_by, eq-eqb _ _ c.if-j-ne0.false, lt-leb _ _ c.if-j-lt-STRUCT.true)
+returns-then-j-lt-STRUCT c = simp (lead_by, eq-eqb _ _ c.if-j-ne0.false, lt-leb _ _ c.if-j-lt-STRUCT.true, c.from.ensures)
 
 pub returns : goal.returns
 unfolding lead_by
-returns c = simp (lead_by, eq-eqb _ _ c.if-j-ne0.false, le-leb _ _ c.if-j-lt-STRUCT.false, c.param.ensures)
+returns c = simp (lead_by, eq-eqb _ _ c.if-j-ne0.false, le-leb _ _ c.if-j-lt-STRUCT.false, c.param.ensures, c.from-2.ensures)

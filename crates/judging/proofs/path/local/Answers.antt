@@ -5,7 +5,7 @@ use Rattle.judging.proofs.path.local.Goals as goal
 
 pub returns-then-d-eq0 : goal.returns-then-d-eq0
 unfolding start_of
-returns-then-d-eq0 c = λ ar types own. simp (start_of, eq-eqb _ _ (sym c.digit-d.ensures ∙ c.if-d-eq0.true))
+returns-then-d-eq0 c = λ ar types own. simp (start_of, eq-eqb _ _ (sym c.digit-d.ensures ∙ c.if-d-eq0.true), c.from.ensures)
 
 pub returns : goal.returns
 unfolding start_of

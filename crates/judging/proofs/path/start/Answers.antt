@@ -6,7 +6,7 @@ use Rattle.judging.proofs.path.start.Goals as goal
 
 pub returns-then-b-lt-FIRST_LOCAL : goal.returns-then-b-lt-FIRST_LOCAL
 unfolding var_of start_of
-returns-then-b-lt-FIRST_LOCAL c = simp (var_of, start_of, lt-ltb _ _ c.if-b-lt-FIRST_LOCAL.true, c.param.ensures)
+returns-then-b-lt-FIRST_LOCAL c = simp (var_of, start_of, lt-ltb _ _ c.if-b-lt-FIRST_LOCAL.true, c.param.ensures, c.from.ensures)
 
 pub returns : goal.returns
 unfolding var_of

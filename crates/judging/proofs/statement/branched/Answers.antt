@@ -5,4 +5,4 @@ use Rattle.judging.proofs.statement.branched.Goals as goal
 
 pub returns : goal.returns
 unfolding branched
-returns c = simp (branched, c.worst.ensures, c.higher.ensures, c.demand-first.ensures, add-one, add-suc)
+returns c = simp (branched, c.worst.ensures, c.max.ensures, c.demand-first.ensures, add-one, add-suc)

@@ -12,7 +12,7 @@ returns c =
       add-two,
       c.worst.ensures,
       c.named.ensures,
-      c.higher.ensures,
+      c.max.ensures,
       c.mark.ensures,
       c.mark-2.ensures,
       c.digit-new.ensures,

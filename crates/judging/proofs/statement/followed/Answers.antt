@@ -4,4 +4,4 @@ use Rattle.judging.proofs.statement.followed.Goals as goal
 
 pub returns : goal.returns
 unfolding followed
-returns c = simp (followed, c.worst.ensures, c.higher.ensures)
+returns c = simp (followed, c.worst.ensures, c.max.ensures)

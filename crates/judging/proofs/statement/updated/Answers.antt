@@ -5,4 +5,4 @@ use Rattle.judging.proofs.statement.updated.Goals as goal
 
 pub returns : goal.returns
 unfolding updated
-returns c = simp (updated, c.worst-first.ensures, c.higher.ensures, c.demand.ensures, add-one, add-suc)
+returns c = simp (updated, c.worst-first.ensures, c.max.ensures, c.from.ensures, c.demand.ensures, add-one, add-suc)

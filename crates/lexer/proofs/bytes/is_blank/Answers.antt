@@ -1,21 +1,21 @@
 -- `bytes::is_blank` meets its contract.
-use Rattle.std.proofs.Common.{eq-eqb, ne_eqb}
+use Rattle.std.proofs.Common.{arith}
+use Rattle.std.proofs.lemmas.Grind.{common_steps}
 use Rattle.tokens.specs.Tokens.{blank}
 use Rattle.lexer.proofs.bytes.is_blank.Goals as goal
 
-pub returns-then-b-eq32 : goal.returns-then-b-eq32
+pub returns-in_default : goal.returns-in_default
 unfolding blank
-returns-then-b-eq32 c = rw (blank, eq-eqb _ 32 c.if-b-eq32.true)
+returns-in_default c = grind (arith, common_steps)
 
-pub returns-then-b-eq9 : goal.returns-then-b-eq9
+pub returns-in_default-2 : goal.returns-in_default-2
 unfolding blank
-returns-then-b-eq9 c = rw (blank, ne_eqb _ 32 c.if-b-eq32.false, eq-eqb _ 9 c.if-b-eq9.true)
+returns-in_default-2 c = grind (arith, common_steps)
 
-pub returns-then-b-eq10 : goal.returns-then-b-eq10
+pub returns-in-32 : goal.returns-in-32
 unfolding blank
-returns-then-b-eq10 c = rw (blank, ne_eqb _ 32 c.if-b-eq32.false, ne_eqb _ 9 c.if-b-eq9.false, eq-eqb _ 10 c.if-b-eq10.true)
+returns-in-32 c = grind (arith, common_steps)
 
-pub returns : goal.returns
+pub returns-in-32-2 : goal.returns-in-32-2
 unfolding blank
-returns c =
-    rw (blank, ne_eqb _ 32 c.if-b-eq32.false, ne_eqb _ 9 c.if-b-eq9.false, ne_eqb _ 10 c.if-b-eq10.false)
+returns-in-32-2 c = grind (arith, common_steps)

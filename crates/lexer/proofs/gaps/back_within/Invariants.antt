@@ -4,6 +4,3 @@ use Rattle.lexer.proofs.gaps.back_within.Given as goal
 
 abbrev pub invariant-loop-i : goal.invariant-loop-i
 invariant-loop-i l = (Gap l.kinds l.i l.end) × (l.first ≤ l.i)
-
-abbrev pub decreases-loop-i : goal.decreases-loop-i
-decreases-loop-i l = l.i

@@ -1,25 +1,14 @@
--- `gaps::eights_back` meets its contract. The loop's invariant: no token began so far. The measure is the place.
-use Rattle.std.proofs.Common.{◌+◌, ◌-◌, ◌≡◌, arith}
-use Rattle.lexer.specs.GapLaws.{gap_none, gap_join}
+-- `gaps::eights_back` meets its contract. The loop's invariant: no token began so far.
+use Rattle.std.proofs.Common.{arith}
+use Rattle.lexer.specs.GapLaws.{gap_none, gap_as, gap_join}
 use Rattle.lexer.proofs.gaps.eights_back.Goals as goal
 
-pub loop-i-init : goal.loop-i-init
-loop-i-init c = gap_none (omega arith)
+pub loop-block-init : goal.loop-block-init
+loop-block-init c = gap_as (gap_none {kinds = c.args.kinds.now} {i = c.args.end} (omega arith)) (omega arith) (omega arith)
 
-pub eight-requires : goal.eight-requires
-eight-requires c = omega (arith, c.loop-i-test.true, c.loop-i.invariant.behind, c.loop-i.invariant.inner)
-
-pub returns-then-not-eight : goal.returns-then-not-eight
-returns-then-not-eight c = c.loop-i.invariant
-
-pub loop-i-smaller : goal.loop-i-smaller
-loop-i-smaller c = omega (arith, c.loop-i-test.true)
-
-pub loop-i-preserved : goal.loop-i-preserved
-loop-i-preserved c =
-    let gap = c.loop-i.invariant in let whole = c.loop-i-test.true in
-    let w : c.loop-i.i - 8 + 8 ≡ c.loop-i.i = omega (arith, whole) in
-    gap_join (rw w at (c.eight.ensures c.if-not-eight.false)) gap
+pub loop-block-preserved : goal.loop-block-preserved
+loop-block-preserved c =
+    gap_join (gap_as (c.eight.ensures c.if-not-eight.false) (omega arith) (omega arith)) c.loop-block.invariant
 
 pub returns : goal.returns
-returns c = c.loop-i.invariant
+returns c = gap_as c.loop-block.invariant (omega arith) (omega arith)

@@ -1,8 +1,6 @@
+use Rattle.std.proofs.Common.{◌-◌, ◌*◌}
 use Rattle.lexer.specs.Gaps.{Gap}
 use Rattle.lexer.proofs.gaps.eights_back.Given as goal
 
-abbrev pub invariant-loop-i : goal.invariant-loop-i
-invariant-loop-i l = Gap l.kinds l.i l.end
-
-abbrev pub decreases-loop-i : goal.decreases-loop-i
-decreases-loop-i l = l.i
+abbrev pub invariant-loop-block : goal.invariant-loop-block
+invariant-loop-block l = Gap l.kinds (l.end - l.block * 8) l.end

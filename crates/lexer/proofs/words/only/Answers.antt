@@ -7,6 +7,6 @@ pub returns-then-same : goal.returns-then-same
 unfolding one_word
 returns-then-same c = rw (one_word, sym c.same.ensures ∙ c.if-same.true)
 
-pub returns : goal.returns
+pub returns-else-same : goal.returns-else-same
 unfolding one_word
-returns c = rw (one_word, sym c.same.ensures ∙ c.if-same.false)
+returns-else-same c = rw (one_word, sym c.same.ensures ∙ c.if-same.false)

@@ -12,10 +12,10 @@ returns-then-same c = rw (t_word, sym c.same.ensures ∙ c.if-same.true)
 
 pub returns-then-same-2 : goal.returns-then-same-2
 unfolding t_word word_spelling word_kind word_number
-returns-then-same-2 c = rw (t_word, sym c.same.ensures ∙ c.if-same.false, sym c.same-2.ensures ∙ c.if-same-2.true)
+returns-then-same-2 c = rw (t_word, sym c.same.ensures ∙ c.if-same.false, sym c.same-else-same.ensures ∙ c.if-same-2.true)
 
-pub returns : goal.returns
+pub returns-else-same-2 : goal.returns-else-same-2
 unfolding t_word word_spelling word_kind word_number
-returns c =
-    rw (t_word, sym c.same.ensures ∙ c.if-same.false, sym c.same-2.ensures ∙ c.if-same-2.false)
+returns-else-same-2 c =
+    rw (t_word, sym c.same.ensures ∙ c.if-same.false, sym c.same-else-same.ensures ∙ c.if-same-2.false)
     c.only.ensures

@@ -1,4 +1,4 @@
-use Rattle.std.proofs.Common.{◌-◌, ◌≤◌, ◌≡◌, length}
+use Rattle.std.proofs.Common.{◌-◌, ◌≡◌, length}
 use Rattle.program.specs.Reader.{read_expr}
 use Rattle.judge.specs.Facts.{no_args}
 use Rattle.read_exprs.specs.Told.{ArgsRead}
@@ -13,8 +13,5 @@ decreases-expr l = length l.s.now - l.at
 
 abbrev pub invariant-construct-loop-x : goal.invariant-construct-loop-x
 invariant-construct-loop-x l =
-    ((l.x ≤ l.n) × ArgsRead l.s l.m l.next l.x l.all)
-    × (args_row l.ar l.types l.s l.own l.live (read_expr l.ar l.s l.depth) l.k 0 no_args l.n l.m ≡ args_row l.ar l.types l.s l.own l.live (read_expr l.ar l.s l.depth) l.k l.x l.all (l.n - l.x) l.next)
-
-abbrev pub decreases-construct-loop-x : goal.decreases-construct-loop-x
-decreases-construct-loop-x l = l.n - l.x
+    ArgsRead l.s l.m l.next l.x l.all
+    × (args_row l.names.ar.now l.names.types.now l.s l.names.own l.live (read_expr l.names.ar.now l.s l.depth) l.k 0 no_args l.n l.m ≡ args_row l.names.ar.now l.names.types.now l.s l.names.own l.live (read_expr l.names.ar.now l.s l.depth) l.k l.x l.all (l.n - l.x) l.next)

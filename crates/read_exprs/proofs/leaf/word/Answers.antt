@@ -11,4 +11,4 @@ returns-then-s-at-lt4 c =
 pub returns : goal.returns
 returns c =
     let a = c.args in
-    record { value = rw c.pushed-f.ensures (sym (word_in a.s.now (λ i. omega (arith, c.type_inv.s i)) (pushed a.t) 4 a.at (omega arith))); behind = rw c.pushed-f.ensures (omega arith) }
+    record { value = rw c.pushed.ensures (sym (word_in a.s.now (λ i. omega (arith, c.type_inv.s i)) (pushed a.t) 4 a.at (omega arith))); behind = rw c.pushed.ensures (omega arith) }

@@ -5,4 +5,4 @@ use Rattle.read_program.proofs.totals.noted.Goals as goal
 
 pub returns : goal.returns
 returns c =
-    record { value = ap not c.listed-old.ensures; rows_after = row_noted _ _ _ _ _ _ _ _ _ c.number.ensures c.number-2.ensures c.put_row.ensures }
+    record { value = ap not c.listed-old.ensures; rows_after = row_noted _ _ _ _ _ _ _ _ _ c.from.ensures c.from-2.ensures c.put_row.ensures }

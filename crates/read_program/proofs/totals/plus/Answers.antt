@@ -11,7 +11,7 @@ returns c =
       add-one,
       c.worst.ensures,
       c.over.ensures,
-      c.higher.ensures,
+      c.max.ensures,
       c.worst-own.ensures,
       c.named.ensures,
     )

@@ -1,4 +1,4 @@
-use Rattle.std.proofs.Common.{◌+◌, ◌*◌, ◌≤◌, ◌≡◌, length}
+use Rattle.std.proofs.Common.{◌+◌, ◌-◌, ◌*◌, ◌≤◌, ◌≡◌, length}
 use Rattle.types.specs.Limits.{max_steps}
 use Rattle.directory.specs.Rows.{rows_from}
 use Rattle.read_program.specs.Total.{Low}
@@ -6,11 +6,8 @@ use Rattle.read_program.specs.Own.{Led}
 use Rattle.read_program.specs.TotalWays.{structs_row}
 use Rattle.read_program.proofs.totals.structs.Given as goal
 
-abbrev pub invariant-loop-left : goal.invariant-loop-left
-invariant-loop-left l =
-    ((l.own + l.left ≡ l.n) × ((length l.rows ≡ length l.initial.rows) × (Low l.all l.next × (l.next ≤ length l.s)) × (l.all.steps + max_steps * l.left ≤ l.initial.all.steps + max_steps * l.n)))
-    × (structs_row l.ar l.types l.s l.initial.own l.initial.all l.initial.rows l.initial.left l.initial.next ≡ structs_row l.ar l.types l.s l.own l.all l.rows l.left l.next)
-    × Led l.own (rows_from l.rows 0 l.all.steps)
-
-abbrev pub decreases-loop-left : goal.decreases-loop-left
-decreases-loop-left l = l.left
+abbrev pub invariant-loop-k : goal.invariant-loop-k
+invariant-loop-k l =
+    ((length l.rows ≡ length l.initial.rows) × (Low l.all l.next × (l.next ≤ length l.s)) × (l.all.steps + max_steps * (l.n - l.k) ≤ l.initial.all.steps + max_steps * l.n))
+    × (structs_row l.ar l.types l.s 0 l.initial.all l.initial.rows l.n l.initial.next ≡ structs_row l.ar l.types l.s l.k l.all l.rows (l.n - l.k) l.next)
+    × Led l.k (rows_from l.rows 0 l.all.steps)

@@ -12,10 +12,7 @@ decreases-stmt l = length l.s.now - l.at
 abbrev pub decreases-when : goal.decreases-when
 decreases-when l = length l.s.now - l.at
 
-abbrev pub invariant-body-loop-left : goal.invariant-body-loop-left
-invariant-body-loop-left l =
+abbrev pub invariant-body-loop-i : goal.invariant-body-loop-i
+invariant-body-loop-i l =
     (Read l.s l.m l.next l.done)
-    × (row l.ar l.types l.s l.own (read_stmt l.ar l.s l.depth) l.initial.done l.initial.left l.initial.next ≡ row l.ar l.types l.s l.own (read_stmt l.ar l.s l.depth) l.done l.left l.next)
-
-abbrev pub decreases-body-loop-left : goal.decreases-body-loop-left
-decreases-body-loop-left l = l.left
+    × (row l.names.ar.now l.names.types.now l.s l.names.own (read_stmt l.names.ar.now l.s l.depth) l.initial.done l.n l.initial.next ≡ row l.names.ar.now l.names.types.now l.s l.names.own (read_stmt l.names.ar.now l.s l.depth) l.done (l.n - l.i) l.next)

@@ -1,38 +1,9 @@
--- `declarations::narrow` meets its contract. The loop's invariant: the rows before i have few steps. The measure is what is left of the rows.
-use Rattle.std.proofs.Common.{sym, ◌∙◌, arith}
-use Rattle.resolve.specs.Laws.CheckLaws.{paired_start, paired_not, paired_on, paired_end}
+-- `declarations::narrow` meets its contract.
+use Rattle.std.proofs.Common.{◌-◌, leb}
+use Rattle.types.specs.Limits.{max_steps}
 use Rattle.resolve.specs.Checks.{narrow}
 use Rattle.resolve.proofs.declarations.narrow.Goals as goal
 
-pub loop-i-init : goal.loop-i-init
-loop-i-init c = paired_start _ _
-
-pub overflow_sub-i : goal.overflow_sub-i
-overflow_sub-i c = omega (arith, c.loop-i.invariant.begun)
-
-pub bounds-rows-i : goal.bounds-rows-i
-bounds-rows-i c = omega (arith, c.loop-i-test.true, c.loop-i.invariant.begun)
-
-pub bounds-rows-i-in-loop-i : goal.bounds-rows-i-in-loop-i
-bounds-rows-i-in-loop-i c = omega (arith, c.loop-i-test.true)
-
-pub returns-then-not-few : goal.returns-then-not-few
-unfolding narrow
-returns-then-not-few c =
-    paired_not _ _ _ c.loop-i.invariant c.loop-i-test.true
-    (sym c.if-not-few.true ∙ c.few.ensures)
-
-pub overflow_add-i : goal.overflow_add-i
-overflow_add-i c = omega (arith, c.loop-i-test.true)
-
-pub loop-i-smaller : goal.loop-i-smaller
-loop-i-smaller c = omega (arith, c.loop-i-test.true)
-
-pub loop-i-preserved : goal.loop-i-preserved
-loop-i-preserved c =
-    paired_on _ _ _ c.loop-i.invariant c.loop-i-test.true
-    (sym c.if-not-few.false ∙ c.few.ensures)
-
 pub returns : goal.returns
 unfolding narrow
-returns c = paired_end _ _ _ c.loop-i.invariant c.loop-i-test.false
+returns c = c.between_all.ensures (λ a b. leb (b - a) max_steps) (λ a b r p q e. e)

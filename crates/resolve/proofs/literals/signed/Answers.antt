@@ -1,18 +1,19 @@
 -- `literals::signed` meets its contract: above zero, at zero, below it.
+use Rattle.std.proofs.Common.{rules, arith}
 use Rattle.resolve.specs.Laws.DigitLaws.{above_inside, above_outside, below_zero, below_inside, below_outside}
 use Rattle.resolve.proofs.literals.signed.Goals as goal
 
-pub returns-then-n-lt-INT_HALF : goal.returns-then-n-lt-INT_HALF
-returns-then-n-lt-INT_HALF c = above_inside c.if-above.true c.if-n-lt-INT_HALF.true
+pub returns-in-true-0-to-2147483647 : goal.returns-in-true-0-to-2147483647
+returns-in-true-0-to-2147483647 c = above_inside (search rules) (omega arith)
 
-pub returns-then-above : goal.returns-then-above
-returns-then-above c = above_outside c.if-above.true c.if-n-lt-INT_HALF.false
+pub returns-in-false-eq0 : goal.returns-in-false-eq0
+returns-in-false-eq0 c = below_zero (search rules) (search rules)
 
-pub returns-then-n-eq0 : goal.returns-then-n-eq0
-returns-then-n-eq0 c = below_zero c.if-above.false c.if-n-eq0.true
+pub returns-in-false-1-to-2147483648 : goal.returns-in-false-1-to-2147483648
+returns-in-false-1-to-2147483648 c = let i = c.in-false-1-to-2147483648 in below_inside i.is-0 i.is-1.1 (omega arith)
 
-pub returns-then-n-le-INT_HALF : goal.returns-then-n-le-INT_HALF
-returns-then-n-le-INT_HALF c = below_inside c.if-above.false c.if-n-eq0.false c.if-n-le-INT_HALF.true
+pub returns-in_default : goal.returns-in_default
+returns-in_default c = above_outside (search rules) (omega arith)
 
-pub returns : goal.returns
-returns c = below_outside c.if-above.false c.if-n-le-INT_HALF.false
+pub returns-in_default-2 : goal.returns-in_default-2
+returns-in_default-2 c = below_outside (search rules) (omega arith)

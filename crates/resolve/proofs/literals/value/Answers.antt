@@ -1,28 +1,21 @@
--- `literals::value` meets its contract. The loop's invariant: the digits come to n and those from i on. The measure is what is left of the text.
+-- `literals::value` meets its contract. The loop's invariant: the digits come to n and those from i on.
 use Rattle.std.proofs.Common.{refl, sym, ◌∙◌, arith}
 use Rattle.meaning.specs.Values.{decimal}
-use Rattle.resolve.specs.Laws.DigitLaws.{added_on, added_end, digit_told}
+use Rattle.resolve.specs.Laws.DigitLaws.{adds_on, adds_end, adds_out}
 use Rattle.resolve.proofs.literals.value.Goals as goal
 
-pub loop-n-init : goal.loop-n-init
+pub loop-i-init : goal.loop-i-init
 unfolding decimal
-loop-n-init c = record { sum = record { small = omega arith; same_value = refl }; at_hand = c.byte-b.ensures }
+loop-i-init c = record { small = omega arith; same_value = refl }
 
 pub longer-n-requires : goal.longer-n-requires
-longer-n-requires c = (c.loop-n.invariant.sum.small, sym c.is_digit.ensures ∙ c.loop-n-test.true)
+longer-n-requires c = (c.loop-i.invariant.small, sym c.is_digit.ensures ∙ c.if-not-is_digit.false)
 
-pub overflow_add-i : goal.overflow_add-i
-overflow_add-i c = omega (arith, digit_told c.loop-n.invariant (sym c.is_digit.ensures ∙ c.loop-n-test.true))
+pub returns-then-not-is_digit : goal.returns-then-not-is_digit
+returns-then-not-is_digit c = adds_end c.loop-i.invariant (sym c.is_digit.ensures ∙ c.if-not-is_digit.true)
 
-pub loop-n-smaller : goal.loop-n-smaller
-loop-n-smaller c = omega (arith, digit_told c.loop-n.invariant (sym c.is_digit.ensures ∙ c.loop-n-test.true))
-
-pub loop-n-preserved : goal.loop-n-preserved
-loop-n-preserved c =
-    record {
-      sum = added_on c.loop-n.invariant (sym c.is_digit.ensures ∙ c.loop-n-test.true) c.longer-n.ensures;
-      at_hand = c.byte-b-in-loop-n.ensures;
-    }
+pub loop-i-preserved : goal.loop-i-preserved
+loop-i-preserved c = adds_on c.loop-i.invariant (sym c.is_digit.ensures ∙ c.if-not-is_digit.false) c.longer-n.ensures
 
 pub returns : goal.returns
-returns c = added_end c.loop-n.invariant (sym c.is_digit.ensures ∙ c.loop-n-test.false)
+returns c = adds_out c.loop-i.invariant c.loop-i-test.false

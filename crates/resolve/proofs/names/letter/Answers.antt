@@ -6,5 +6,5 @@ use Rattle.resolve.proofs.names.letter.Goals as goal
 pub returns-then-is_name_byte : goal.returns-then-is_name_byte
 returns-then-is_name_byte c = letter_kept c.byte-b.ensures (sym c.is_name_byte.ensures ∙ c.if-is_name_byte.true)
 
-pub returns : goal.returns
-returns c = letter_none c.byte-b.ensures (sym c.is_name_byte.ensures ∙ c.if-is_name_byte.false)
+pub returns-else-is_name_byte : goal.returns-else-is_name_byte
+returns-else-is_name_byte c = letter_none c.byte-b.ensures (sym c.is_name_byte.ensures ∙ c.if-is_name_byte.false)

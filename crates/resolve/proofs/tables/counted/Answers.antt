@@ -1,9 +1,12 @@
 -- `tables::counted` meets its contract.
-use Rattle.resolve.specs.Laws.TableLaws.{one_counted, none_counted}
+use Rattle.std.proofs.Common.{◌≡◌, ◌+◌, ap, ◌∙◌, ℕ, Bool, true, false, arith}
+use Rattle.resolve.specs.Tables.{with_one}
 use Rattle.resolve.proofs.tables.counted.Goals as goal
 
-pub returns-then-is : goal.returns-then-is
-returns-then-is c = one_counted c.args.n c.if-is.true
-
 pub returns : goal.returns
-returns c = none_counted c.args.n c.if-is.false
+unfolding with_one
+returns c = ap (λ k. c.args.n + k) c.from.ensures ∙ go c.args.n c.args.is
+  where
+    go : (n : ℕ) (t : Bool) → n + mir.Val.bool_byte t ≡ with_one t n
+    go n true = omega arith
+    go n false = omega arith

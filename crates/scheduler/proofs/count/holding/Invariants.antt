@@ -4,6 +4,3 @@ use Rattle.scheduler.proofs.count.holding.Given as goal
 
 abbrev pub invariant-loop-l : goal.invariant-loop-l
 invariant-loop-l l = (l.l ≤ l.n) × (l.count ≤ l.l) × (l.count + holding l.heads l.l (l.n - l.l) ≡ holding l.heads 0 l.n)
-
-abbrev pub decreases-loop-l : goal.decreases-loop-l
-decreases-loop-l l = l.n - l.l

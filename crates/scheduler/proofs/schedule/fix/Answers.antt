@@ -3,13 +3,13 @@ use Rattle.std.proofs.Common.{arith}
 use Rattle.scheduler.specs.MoveWays.{entries_low, fix_opens}
 use Rattle.scheduler.proofs.schedule.fix.Goals as goal
 
-pub overflow_mul-next : goal.overflow_mul-next
-overflow_mul-next c =
+pub overflow_mul-result : goal.overflow_mul-result
+overflow_mul-result c =
     let n = c.args.numbers in
     omega (arith, entries_low n.fixes n.stable c.requires.1 c.requires.2)
 
-pub overflow_add-next-3 : goal.overflow_add-next-3
-overflow_add-next-3 c =
+pub overflow_add-result-3 : goal.overflow_add-result-3
+overflow_add-result-3 c =
     let n = c.args.numbers in
     omega (arith, entries_low n.fixes n.stable c.requires.1 c.requires.2)
 

@@ -1,4 +1,4 @@
-use Rattle.std.proofs.Common.{◌≤◌, ◌-◌, ◌≡◌, length}
+use Rattle.std.proofs.Common.{◌≤◌, ◌≡◌, length}
 use Rattle.table_read.specs.Params.{lists_of}
 use Rattle.table_read.specs.Laid.{heads_laid, rows_laid, null_records}
 use Rattle.table_read.specs.Laws.NullWays.{nulls_from}
@@ -6,9 +6,6 @@ use Rattle.table_read.proofs.nulls.nulls.Given as goal
 
 abbrev pub invariant-loop-k : goal.invariant-loop-k
 invariant-loop-k l =
-    ((l.k ≤ length l.counts) × (length l.heads ≡ length l.initial.heads) × (length l.cells ≡ length l.initial.cells))
-    × ((heads_laid l.heads l.k (nulls_from l.counts l.types l.k) ≡ heads_laid l.initial.heads 0 (null_records 0 (lists_of l.counts l.types)))
-    × (rows_laid l.types l.cells l.k (nulls_from l.counts l.types l.k) ≡ rows_laid l.types l.initial.cells 0 (null_records 0 (lists_of l.counts l.types))))
-
-abbrev pub decreases-loop-k : goal.decreases-loop-k
-decreases-loop-k l = length l.counts - l.k
+    ((l.k ≤ length l.p.counts.now) × (length l.heads ≡ length l.initial.heads) × (length l.cells ≡ length l.initial.cells))
+    × ((heads_laid l.heads l.k (nulls_from l.p.counts.now l.p.types.now l.k) ≡ heads_laid l.initial.heads 0 (null_records 0 (lists_of l.p.counts.now l.p.types.now)))
+    × (rows_laid l.p.types.now l.cells l.k (nulls_from l.p.counts.now l.p.types.now l.k) ≡ rows_laid l.p.types.now l.initial.cells 0 (null_records 0 (lists_of l.p.counts.now l.p.types.now))))

@@ -5,6 +5,3 @@ use Rattle.table_read.proofs.refer.row_refers.Given as goal
 abbrev pub invariant-loop-x : goal.invariant-loop-x
 invariant-loop-x l =
     (l.x ≤ l.m) × (row_refers l.heads l.n l.types (l.from + l.x) l.cells (l.place + l.x) (l.m - l.x) ≡ row_refers l.heads l.n l.types l.from l.cells l.place l.m)
-
-abbrev pub decreases-loop-x : goal.decreases-loop-x
-decreases-loop-x l = l.m - l.x

@@ -9,6 +9,3 @@ invariant-loop-l l =
     ((l.l ≤ l.n) × (l.next + most_record * (l.n - l.l) ≤ length l.initial.out) × (length l.out ≡ length l.initial.out))
     × ((l.next + length (rows_bytes l.counts l.heads l.cells l.l (l.n - l.l)) ≡ l.at + length (rows_bytes l.counts l.heads l.cells l.first (l.n - l.first)))
     × (sets l.out l.next (rows_bytes l.counts l.heads l.cells l.l (l.n - l.l)) ≡ sets l.initial.out l.at (rows_bytes l.counts l.heads l.cells l.first (l.n - l.first))))
-
-abbrev pub decreases-loop-l : goal.decreases-loop-l
-decreases-loop-l l = l.n - l.l

@@ -7,4 +7,5 @@ use Rattle.text.proofs.lines.line.Goals as goal
 pub returns : goal.returns
 unfolding line
 returns c =
-    record { placed = placed_on c.column-a.ensures.placed (placed_on c.column-b.ensures.placed (placed_on c.column-c.ensures.placed (placed_on c.command-d.ensures.placed c.byte.ensures))); upper_bound = omega (arith, c.column-a.ensures.upper_bound, c.column-b.ensures.upper_bound, c.column-c.ensures.upper_bound, c.command-d.ensures.upper_bound, c.byte.ensures.end) }
+    let a = rw c.from.ensures at c.column-a.ensures.placed in let b = rw c.from-2.ensures at c.column-b.ensures.placed in
+    record { placed = placed_on a (placed_on b (placed_on c.column-c.ensures.placed (placed_on c.command-d.ensures.placed c.byte.ensures))); upper_bound = omega (arith, c.column-a.ensures.upper_bound, c.column-b.ensures.upper_bound, c.column-c.ensures.upper_bound, c.command-d.ensures.upper_bound, c.byte.ensures.end) }

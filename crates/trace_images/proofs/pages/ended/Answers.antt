@@ -23,4 +23,4 @@ returns c =
     subst (λ (w : List ℕ). Paged (text ++ w) lent c.put-p.result c.put-p.new.out) told
     (subst (λ (g : Page). Paged (text ++ line) lent g c.put-p.new.out) (sym c.put-p.ensures.value) (c.put-p.ensures.grows text lent h)) in
     page_answers paged (ap (λ (g : Page). g.from) c.put-p.ensures.value) a.number a.taken c.least-count.result
-    (c.least-count.ensures ∙ ap (min (length c.put-p.new.out)) c.minus.ensures)
+    (c.least-count.ensures ∙ ap (min (length c.put-p.new.out)) c.saturating_sub.ensures)

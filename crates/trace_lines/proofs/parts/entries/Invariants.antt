@@ -5,6 +5,3 @@ use Rattle.trace_lines.proofs.parts.entries.Given as goal
 abbrev pub invariant-loop-i : goal.invariant-loop-i
 invariant-loop-i l =
     (length l.out ≡ length l.initial.out) × BitsPassed l.n l.s l.initial.out l.initial.at l.out l.at l.left l.i
-
-abbrev pub decreases-loop-i : goal.decreases-loop-i
-decreases-loop-i l = l.n - l.i

@@ -7,6 +7,3 @@ use Rattle.trace_lines.proofs.parts.stack.Given as goal
 abbrev pub invariant-loop-h : goal.invariant-loop-h
 invariant-loop-h l =
     (length l.out ≡ length l.initial.out) × (l.h ≤ l.high) × (l.at ≤ l.k + cell_most * l.h) × Placed (cells_text l.heads l.cells l.l l.h) l.initial.out l.k l.at l.out
-
-abbrev pub decreases-loop-h : goal.decreases-loop-h
-decreases-loop-h l = l.high - l.h

@@ -28,12 +28,12 @@ bounds-list-next c = omega (arith, fit_rows c.requires)
 
 pub returns-then-w-ne-WR : goal.returns-then-w-ne-WR
 unfolding target
-returns-then-w-ne-WR c = c.nothing.ensures ∙ target_other _ _ _ _ c.if-w-ne-WR.true
+returns-then-w-ne-WR c = target_other _ _ _ _ c.if-w-ne-WR.true
 
 pub returns-then-x-ge-FIRST_LOCAL : goal.returns-then-x-ge-FIRST_LOCAL
 unfolding target
 returns-then-x-ge-FIRST_LOCAL c =
-    c.nothing-then-x-ge-FIRST_LOCAL.ensures ∙ target_local _ _ _ _ c.if-w-ne-WR.false (rw c.operand-x.ensures.0 at c.if-x-ge-FIRST_LOCAL.true)
+    target_local _ _ _ _ c.if-w-ne-WR.false (rw c.operand-x.ensures.0 at c.if-x-ge-FIRST_LOCAL.true)
 
 pub overflow_add-under : goal.overflow_add-under
 overflow_add-under c = omega (arith, fit_write c.requires c.if-w-ne-WR.false, fit_rows c.requires)
@@ -68,8 +68,7 @@ bounds-cells-l c = omega (arith, fit_write c.requires c.if-w-ne-WR.false, fit_ro
 pub returns-then-q-counts : goal.returns-then-q-counts
 unfolding target
 returns-then-q-counts c =
-    c.nothing-then-q-counts.ensures
-    ∙ target_null _ _ _ _ c.if-w-ne-WR.false (rw c.operand-x.ensures.0 at c.if-x-ge-FIRST_LOCAL.false)
+    target_null _ _ _ _ c.if-w-ne-WR.false (rw c.operand-x.ensures.0 at c.if-x-ge-FIRST_LOCAL.false)
     (rw c.operand-q.ensures.0 at c.if-q-counts.true)
 
 pub bounds-cells-q : goal.bounds-cells-q

@@ -1,4 +1,4 @@
--- `declared::all` meets its contract. The loop's invariant: the places that are left complete the table. The measure is what is left of the roles.
+-- `declared::all` meets its contract. The loop's invariant: the places that are left complete the table.
 use Rattle.std.proofs.Common.{arith}
 use Rattle.resolve.specs.Laws.TableLaws.{gathers_start, gathers_count, gathers_stored}
 use Rattle.uses.specs.Laws.AmongLaws.{declared_behind, all_left, all_on}
@@ -7,17 +7,8 @@ use Rattle.uses.proofs.declared.all.Goals as goal
 pub loop-i-init : goal.loop-i-init
 loop-i-init c = let args = c.args in gathers_start (declared_behind args.roles.now) args.table.now
 
-pub bounds-roles-i : goal.bounds-roles-i
-bounds-roles-i c = omega (arith, c.loop-i-test.true)
-
 pub add-n-requires : goal.add-n-requires
 add-n-requires c = omega (arith, c.loop-i-test.true, c.loop-i.invariant.few)
-
-pub overflow_add-i : goal.overflow_add-i
-overflow_add-i c = omega (arith, c.loop-i-test.true)
-
-pub loop-i-smaller : goal.loop-i-smaller
-loop-i-smaller c = omega (arith, c.loop-i-test.true)
 
 pub loop-i-preserved : goal.loop-i-preserved
 loop-i-preserved c =

@@ -5,6 +5,3 @@ use Rattle.uses.proofs.declared.all.Given as goal
 
 abbrev pub invariant-loop-i : goal.invariant-loop-i
 invariant-loop-i l = Gathers (declared_behind l.roles) l.initial.table l.table l.n l.i
-
-abbrev pub decreases-loop-i : goal.decreases-loop-i
-decreases-loop-i l = length l.roles - l.i

@@ -4,7 +4,7 @@ use Rattle.uses.specs.Laws.AmongLaws.{named_declares, typed_declares}
 use Rattle.uses.proofs.declared.declares.Goals as goal
 
 pub returns-then-between : goal.returns-then-between
-returns-then-between c = named_declares _ (sym c.between.ensures ∙ c.if-between.true)
+returns-then-between c = c.if-between.true ∙ named_declares _ (sym c.between.ensures ∙ c.if-between.true)
 
-pub returns : goal.returns
-returns c = c.between-2.ensures ∙ typed_declares _ (sym c.between.ensures ∙ c.if-between.false)
+pub returns-else-between : goal.returns-else-between
+returns-else-between c = c.between-else-between.ensures ∙ typed_declares _ (sym c.between.ensures ∙ c.if-between.false)

@@ -1,17 +1,17 @@
 -- `parts::kind_role` meets its contract: one law for each kind.
 use Rattle.std.proofs.Common.{ap, ◌∙◌, arith, drop}
-use Rattle.uses.specs.declared.Passed.TheVariants.{On}
 use Rattle.uses.specs.Lent.{passed_in}
 use Rattle.uses.specs.Laws.StackLaws.{next_same, next_lived}
 use Rattle.uses.specs.Laws.BracketLaws.{kind_semicolon, kind_int, kind_nat, kind_quiet, next_word}
 use Rattle.uses.proofs.parts.kind_role.Goals as goal
+use Rattle.uses.specs.Passed.{onward}
 
 pub returns-in-19 : goal.returns-in-19
 returns-in-19 c =
     let x = c.args.text.now in
     let s = c.args.c in
     record {
-      by_index = λ l k o. ap (λ d. passed_in x l k (On d) o) c.lived.ensures ∙ kind_semicolon x l k o s c.args.kind (drop c.args.at x) c.in-19.is;
+      by_index = λ l k o. ap (λ d. passed_in x l k (onward d) o) c.lived.ensures ∙ kind_semicolon x l k o s c.args.kind (drop c.args.at x) c.in-19.is;
       by_index_2 = λ t l r. rw c.lived.ensures (next_lived t l s r s.met s.living s.bodies r.met r.living (omega arith) (omega arith));
     }
 

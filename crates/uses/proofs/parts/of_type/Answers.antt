@@ -1,12 +1,12 @@
 -- `parts::of_type` meets its contract.
-use Rattle.std.proofs.Common.{sym, ap}
+use Rattle.std.proofs.Common.{sym, ap, ◌∙◌}
 use Rattle.uses.specs.Seeing.{word_passed}
 use Rattle.uses.proofs.parts.of_type.Goals as goal
 
-pub returns-in-Of : goal.returns-in-Of
+pub returns-in_err-w : goal.returns-in_err-w
 unfolding word_passed
-returns-in-Of c = ap (λ w. word_passed w c.args.c) (sym c.in-Of.is)
+returns-in_err-w c = c.from_residual.ensures ∙ ap (λ w. word_passed w c.args.c) (sym c.in_err-w.was)
 
-pub returns-in-Outside : goal.returns-in-Outside
+pub returns : goal.returns
 unfolding word_passed
-returns-in-Outside c = ap (λ w. word_passed w c.args.c) (sym c.in-Outside.is)
+returns c = ap (λ w. word_passed w c.args.c) (sym c.in_ok-w.was)

@@ -1,10 +1,10 @@
 -- `parts::part_role` meets its contract: one law for each part.
 use Rattle.std.proofs.Common.{refl, ap, ◌∙◌, arith}
-use Rattle.uses.specs.declared.Passed.TheVariants.{On}
 use Rattle.uses.specs.Lent.{use_in, passed_in}
 use Rattle.uses.specs.Laws.StackLaws.{next_same, next_lived}
 use Rattle.uses.specs.Laws.BracketLaws.{part_args, part_no_args, part_body, part_if, part_end_if, part_comma, part_quiet, body_shut}
 use Rattle.uses.proofs.parts.part_role.Goals as goal
+use Rattle.uses.specs.Passed.{onward}
 
 pub returns-in-66 : goal.returns-in-66
 returns-in-66 c =
@@ -30,7 +30,7 @@ returns-in-75 c =
     let k = a.stack.now in
     let s = a.c in
     record {
-      o_after = λ x t l o r. ap (λ d. passed_in x l k (On d) o) c.lived.ensures ∙ body_shut x l k o s ∙ part_body a.role (use_in x l k s o) c.in-75.is;
+      o_after = λ x t l o r. ap (λ d. passed_in x l k (onward d) o) c.lived.ensures ∙ body_shut x l k o s ∙ part_body a.role (use_in x l k s o) c.in-75.is;
       by_index = λ t l r. rw c.lived.ensures (next_lived t l s r 0 0 0 (omega arith) (omega arith) (omega arith) (omega arith));
       stack_len_unchanged = refl;
     }

@@ -14,10 +14,8 @@ returns-then-n-gt-ALL_MANY c =
       table_len_unchanged = refl;
     }
 
-pub slice_bounds-filled-end : goal.slice_bounds-filled-end
-slice_bounds-filled-end c = take_long _ _ (omega (arith, c.all-n.auto.table, c.if-n-gt-ALL_MANY.false))
+pub slice_bounds-declarations-end : goal.slice_bounds-declarations-end
+slice_bounds-declarations-end c = take_long _ _ (omega (arith, c.all-n.auto.table, c.if-n-gt-ALL_MANY.false))
 
-pub filled-requires : goal.filled-requires
-filled-requires c =
-    let pre = c.requires in
-    (pre.0, pre.1, front_held _ _ c.all-n.ensures.value c.all-n.ensures.table_after c.if-n-gt-ALL_MANY.false)
+pub invariant_of-declarations : goal.invariant_of-declarations
+invariant_of-declarations c = record { gathered = front_held _ _ c.all-n.ensures.value c.all-n.ensures.table_after c.if-n-gt-ALL_MANY.false }
