@@ -11133,107 +11133,54 @@ static inline struct engine__Machine engine__Machine__command(struct engine__Mac
 static RT_HERE struct layout__Numbers engine__after(struct layout__Numbers l1, struct core__result__Result__Effect_Refusal l2)
 {
     struct layout__Numbers l0;
-    uint8_t l3;
-    uint64_t l4;
-    struct types__refusal__Refusal l5;
-    struct layout__Numbers l6;
+    struct layout__Numbers l3;
+    uint8_t l4;
+    uint64_t l5;
+    struct types__refusal__Refusal l6;
     uint64_t l7;
-    uint64_t l8;
-    uint64_t l9;
-    uint64_t l10;
-    uint8_t l11;
-    uint64_t l12;
-    uint64_t l13;
-    uint64_t l14;
-    uint64_t l15;
-    uint64_t l16;
-    uint8_t l17;
-    uint64_t l18;
-    uint64_t l19;
-    uint8_t l20;
-    uint64_t l21;
-    uint64_t l22;
-    uint64_t l23;
-    uint64_t l24;
-    uint64_t l25;
-    uint64_t l26;
+    uint8_t l8;
+    l3.f0 = l1.f0;
+    l3.f1 = l1.f1;
+    l3.f2 = l1.f2;
+    l3.f3 = l1.f3;
+    l3.f4 = l1.f4;
+    l3.f5 = l1.f5;
+    l3.f6 = l1.f6;
     switch (l2.tag) {
         case UINT8_C(0): {
             switch (l2.s0.tag) {
                 case UINT8_C(0): {
-                    l6.f0 = l1.f0;
-                    l6.f1 = l1.f1;
-                    l6.f2 = l1.f2;
-                    l6.f3 = l1.f3;
-                    l6.f4 = l1.f4;
-                    l6.f5 = l1.f5;
-                    l6.f6 = l1.f6;
                     break;
                 }
                 case UINT8_C(1): {
-                    l3 = l2.s0.s0;
-                    l7 = core__convert__others__UsizeFromBool__from(l3);
-                    l4 = (uint64_t)((uint64_t)l1.f3 * (uint64_t)l7);
-                    l8 = l1.f0;
-                    l9 = l1.f1;
-                    l10 = l1.f2;
-                    l11 = l1.f4;
-                    l12 = l1.f5;
-                    l13 = l1.f6;
-                    l6.f0 = l8;
-                    l6.f1 = l9;
-                    l6.f2 = l10;
-                    l6.f3 = l4;
-                    l6.f4 = l11;
-                    l6.f5 = l12;
-                    l6.f6 = l13;
+                    l4 = l2.s0.s0;
+                    l7 = core__convert__others__UsizeFromBool__from(l4);
+                    l5 = (uint64_t)((uint64_t)l1.f3 * (uint64_t)l7);
+                    l3.f3 = l5;
                     break;
                 }
                 case UINT8_C(2): default: {
-                    l14 = (uint64_t)((uint64_t)l1.f0 + (uint64_t)UINT64_C(1));
-                    l15 = l1.f1;
-                    l16 = l1.f2;
-                    l17 = l1.f4;
-                    l18 = l1.f5;
-                    l19 = l1.f6;
-                    l6.f0 = l14;
-                    l6.f1 = l15;
-                    l6.f2 = l16;
-                    l6.f3 = UINT64_C(0);
-                    l6.f4 = l17;
-                    l6.f5 = l18;
-                    l6.f6 = l19;
+                    l3.f3 = UINT64_C(0);
+                    l3.f0 = (uint64_t)((uint64_t)l1.f0 + (uint64_t)UINT64_C(1));
                     break;
                 }
             }
             break;
         }
         case UINT8_C(1): default: {
-            l5 = l2.s1;
-            l20 = types__refusal__U8FromRefusal__from(l5);
-            l21 = l1.f0;
-            l22 = l1.f1;
-            l23 = l1.f2;
-            l24 = l1.f3;
-            l25 = l1.f5;
-            l26 = l1.f6;
-            l6.f0 = l21;
-            l6.f1 = l22;
-            l6.f2 = l23;
-            l6.f3 = l24;
-            l6.f4 = l20;
-            l6.f5 = l25;
-            l6.f6 = l26;
+            l6 = l2.s1;
+            l8 = types__refusal__U8FromRefusal__from(l6);
+            l3.f4 = l8;
             break;
         }
     }
-    l0.f0 = l6.f0;
-    l0.f1 = l6.f1;
-    l0.f2 = l6.f2;
-    l0.f3 = l6.f3;
-    l0.f4 = l6.f4;
-    l0.f5 = l6.f5;
-    l0.f6 = l6.f6;
+    l0.f0 = l3.f0;
+    l0.f1 = l3.f1;
+    l0.f2 = l3.f2;
+    l0.f3 = l3.f3;
+    l0.f4 = l3.f4;
+    l0.f5 = l3.f5;
+    l0.f6 = l3.f6;
     return l0;
 }
 
@@ -11255,16 +11202,10 @@ static inline uint64_t engine__left_holding(rt_slice l1, uint64_t l2, uint64_t l
 static RT_HERE struct layout__Numbers engine__turned(struct layout__Numbers l1, uint64_t l2)
 {
     struct layout__Numbers l0;
-    uint8_t l3;
-    uint64_t l4;
-    uint64_t l5;
-    uint64_t l6;
-    uint64_t l7;
-    uint64_t l8;
-    uint8_t l9;
-    uint64_t l10;
-    l3 = (uint8_t)(l1.f4 != UINT8_C(0));
-    if (l3) {
+    struct layout__Numbers l3;
+    uint8_t l4;
+    l4 = (uint8_t)(l1.f4 != UINT8_C(0));
+    if (l4) {
         l0.f0 = l1.f0;
         l0.f1 = l1.f1;
         l0.f2 = l1.f2;
@@ -11274,20 +11215,21 @@ static RT_HERE struct layout__Numbers engine__turned(struct layout__Numbers l1, 
         l0.f6 = l1.f6;
         return l0;
     }
-    l4 = (uint64_t)((uint64_t)l2 + (uint64_t)UINT64_C(1));
-    l5 = l1.f0;
-    l6 = l1.f1;
-    l7 = l1.f2;
-    l8 = l1.f3;
-    l9 = l1.f4;
-    l10 = l1.f5;
-    l0.f0 = l5;
-    l0.f1 = l6;
-    l0.f2 = l7;
-    l0.f3 = l8;
-    l0.f4 = l9;
-    l0.f5 = l10;
-    l0.f6 = l4;
+    l3.f0 = l1.f0;
+    l3.f1 = l1.f1;
+    l3.f2 = l1.f2;
+    l3.f3 = l1.f3;
+    l3.f4 = l1.f4;
+    l3.f5 = l1.f5;
+    l3.f6 = l1.f6;
+    l3.f6 = (uint64_t)((uint64_t)l2 + (uint64_t)UINT64_C(1));
+    l0.f0 = l3.f0;
+    l0.f1 = l3.f1;
+    l0.f2 = l3.f2;
+    l0.f3 = l3.f3;
+    l0.f4 = l3.f4;
+    l0.f5 = l3.f5;
+    l0.f6 = l3.f6;
     return l0;
 }
 

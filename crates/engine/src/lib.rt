@@ -27,25 +27,23 @@ fn after(numbers: Numbers, acted: Result<Effect, Refusal>) -> Numbers
     requires { numbers.count < 2 ^ 63 }
     ensures { (h c : List ℕ) → state_of result h c ≡ answering acted (state_of numbers h c) }
 {
+    // One number in each arm: a struct update there copies the others, which costs a quarter of a turn.
+    let mut next = numbers;
     match acted {
-        Ok(Effect::Kept) => numbers,
+        Ok(Effect::Kept) => {}
         Ok(Effect::Wrote(same)) => {
             let product = numbers.stable * usize::from(same);
-            Numbers {
-                stable: product,
-                ..numbers
-            }
+            next.stable = product;
         }
-        Ok(Effect::Made) => Numbers {
-            stable: 0,
-            count: numbers.count + 1,
-            ..numbers
-        },
-        Err(refusal) => Numbers {
-            number: u8::from(refusal),
-            ..numbers
-        },
+        Ok(Effect::Made) => {
+            next.stable = 0;
+            next.count = numbers.count + 1;
+        }
+        Err(refusal) => {
+            next.number = u8::from(refusal);
+        }
     }
+    next
 }
 
 // How many hold commands behind a command of instance l, where n did before it: the others hold what they held.
@@ -64,10 +62,9 @@ fn turned(numbers: Numbers, l: usize) -> Numbers
     if numbers.number != 0 {
         return numbers;
     }
-    Numbers {
-        from: l + 1,
-        ..numbers
-    }
+    let mut next = numbers;
+    next.from = l + 1;
+    next
 }
 
 impl Machine {
