@@ -38,6 +38,8 @@ def read(file):
             frames[name] = int(frame[1]) if frame else ALLOWANCE
         elif edge := EDGE.match(line):
             calls.setdefault(edge[1], set()).add(edge[2])
+    if missing := {callee for each in calls.values() for callee in each} - set(frames):
+        sys.exit(f"stack_of: gcc tells nothing of the frame of {', '.join(sorted(missing))}; -fno-ipa-icf keeps functions of one body apart")
     return frames, calls
 
 

@@ -35,6 +35,11 @@ RT_ASSERT(pointer, offsetof(rt_slice, p) == 0);
 #else
 #define RT_HERE inline
 #endif
+#if defined(__GNUC__) && defined(__OPTIMIZE__)
+#define RT_WITHIN inline __attribute__((always_inline))
+#else
+#define RT_WITHIN inline
+#endif
 RT_ASSERT(audala_counts, sizeof(audala_counts) == 16);
 RT_ASSERT(audala_counts_number, offsetof(audala_counts, number) == 0);
 RT_ASSERT(audala_counts_true_orders, offsetof(audala_counts, true_orders) == 4);
@@ -985,29 +990,29 @@ static inline uint64_t arithmetic__int_of(uint32_t l1);
 static RT_HERE struct core__result__Result__u64_OperatorError arithmetic__quotient_of(uint64_t l1, uint64_t l2);
 static RT_HERE struct core__result__Result__u64_OperatorError arithmetic__remainder_of(uint64_t l1, uint64_t l2);
 static inline struct core__result__Result__u32_OperatorError arithmetic__truth(struct core__option__Option__bool l1);
-static RT_HERE struct audala__Answer audala__AnswerFromVerdict__from(struct checker__Verdict l1);
-static RT_HERE struct audala__Report audala__ReportFromRun_imagesReport__from(struct run_images__Report l1);
+static RT_WITHIN struct audala__Answer audala__AnswerFromVerdict__from(struct checker__Verdict l1);
+static RT_WITHIN struct audala__Report audala__ReportFromRun_imagesReport__from(struct run_images__Report l1);
 static RT_HERE struct audala__Answer audala__audala_check(rt_slice l1, rt_slice l2);
 static RT_HERE struct audala__Report audala__audala_run(rt_slice l1, rt_slice l2, rt_slice l3, rt_slice l4, rt_slice l5);
 static RT_HERE struct audala__Part audala__audala_step(rt_slice l1, rt_slice l2, uint8_t l3, uint8_t l4);
 static RT_HERE struct audala__images__Copied audala__images__Copied__done(uint64_t l1);
-static RT_HERE struct audala__images__Copied audala__images__CopiedFromRefusal__from(struct types__refusal__Refusal l1);
-static RT_HERE struct audala__images__Copied audala__images__CopiedFromResultUsizeReadError__from(struct core__result__Result__u64_ReadError l1);
-static RT_HERE struct audala__images__Copied audala__images__CopiedFromResultUsizeWriteError__from(struct core__result__Result__u64_WriteError l1);
+static RT_WITHIN struct audala__images__Copied audala__images__CopiedFromRefusal__from(struct types__refusal__Refusal l1);
+static RT_WITHIN struct audala__images__Copied audala__images__CopiedFromResultUsizeReadError__from(struct core__result__Result__u64_ReadError l1);
+static RT_WITHIN struct audala__images__Copied audala__images__CopiedFromResultUsizeWriteError__from(struct core__result__Result__u64_WriteError l1);
 static RT_HERE struct audala__images__Copied audala__images__audala_read_image(rt_slice l1, uint64_t l2, rt_slice l3);
 static RT_HERE struct audala__images__Copied audala__images__audala_write_image(rt_slice l1, uint64_t l2, rt_slice l3);
 static RT_HERE struct audala__images__Copied audala__listings__audala_listing(rt_slice l1, rt_slice l2);
 static inline struct audala__places__Stopped audala__places__audala_place(rt_slice l1);
-static RT_HERE struct audala__tallies__Counts audala__tallies__CountsFromCount_imagesCounts__from(struct count_images__Counts l1);
+static RT_WITHIN struct audala__tallies__Counts audala__tallies__CountsFromCount_imagesCounts__from(struct count_images__Counts l1);
 static RT_HERE struct audala__tallies__Counts audala__tallies__audala_count(rt_slice l1, rt_slice l2, uint32_t l3, uint32_t l4, uint32_t l5, rt_slice l6);
-static RT_HERE struct audala__images__Copied audala__texts__CopiedFromRead_textAnswer__from(struct read_text__Answer l1);
+static RT_WITHIN struct audala__images__Copied audala__texts__CopiedFromRead_textAnswer__from(struct read_text__Answer l1);
 static RT_HERE struct audala__images__Copied audala__texts__audala_text(rt_slice l1, rt_slice l2);
-static RT_HERE struct audala__traces__Traced audala__traces__TracedFromTrace_imagesTraced__from(struct trace_images__Traced l1);
+static RT_WITHIN struct audala__traces__Traced audala__traces__TracedFromTrace_imagesTraced__from(struct trace_images__Traced l1);
 static RT_HERE struct audala__traces__Traced audala__traces__audala_trace(rt_slice l1, rt_slice l2, rt_slice l3, uint64_t l4, rt_slice l5);
 static inline struct core__option__Option__Fault block__block_fault(rt_slice l1, uint64_t l2, uint8_t l3);
 static inline uint8_t block__filled(rt_slice l1, uint8_t l2);
-static RT_HERE uint8_t block__fn__zeros__all(uint8_t *l1, uint8_t *l2);
-static RT_HERE uint8_t block__fn__zeros__all_FnMut__call_mut(uint8_t *l1, uint8_t *l2);
+static RT_WITHIN uint8_t block__fn__zeros__all(uint8_t *l1, uint8_t *l2);
+static RT_WITHIN uint8_t block__fn__zeros__all_FnMut__call_mut(uint8_t *l1, uint8_t *l2);
 static inline uint8_t block__laid_out(rt_slice l1, uint64_t l2, uint8_t l3);
 static RT_HERE rt_slice block__payload(rt_slice l1, uint64_t l2);
 static inline void block__put__copy(rt_slice l1, uint64_t l2, rt_slice l3);
@@ -1035,8 +1040,8 @@ static inline uint8_t blocks__writing__stream_right(uint64_t l1, uint64_t l2);
 static inline struct checker__Verdict checker__accepted(struct load__Loaded l1);
 static RT_APART struct checker__Verdict checker__check(rt_slice l1, rt_slice l2);
 static inline struct checker__Verdict checker__refused(uint8_t l1);
-static RT_HERE struct core__result__Result__Kind_UnknownKind commands__kind__KindTryFromU64__try_from(uint64_t l1);
-static RT_HERE uint64_t commands__kind__U64FromKind__from(struct commands__kind__Kind l1);
+static RT_WITHIN struct core__result__Result__Kind_UnknownKind commands__kind__KindTryFromU64__try_from(uint64_t l1);
+static RT_WITHIN uint64_t commands__kind__U64FromKind__from(struct commands__kind__Kind l1);
 static inline struct emit__Put compile__items__add(rt_slice l1, struct emit__Put l2, uint64_t l3);
 static inline struct emit__Put compile__items__item(rt_slice l1, uint64_t l2, uint64_t l3, rt_slice l4, uint64_t l5);
 static inline struct emit__Put compile__items__items(rt_slice l1, uint64_t l2, uint64_t l3, rt_slice l4, uint64_t l5);
@@ -1074,20 +1079,20 @@ static RT_HERE struct composing__Pen composing__waiting__opened(rt_slice l1, str
 static RT_HERE struct composing__Pen composing__waiting__popped(struct composing__Pen l1);
 static RT_HERE struct composing__Pen composing__waiting__stacked(rt_slice l1, rt_slice l2, struct composing__Pen l3, uint8_t l4, uint8_t l5);
 static RT_HERE struct composing__Pen composing__written(rt_slice l1, rt_slice l2, rt_slice l3, rt_slice l4, rt_slice l5);
-static RT_HERE void core__Destruct__none__drop__OperatorError(struct operators__OperatorError l1);
-static RT_HERE void core__Destruct__none__drop__Range_u64(struct core__iter__ranges__Range__u64 l1);
-static RT_HERE void core__Destruct__none__drop__Refusal(struct types__refusal__Refusal l1);
-static RT_HERE void core__Destruct__none__drop__TryFromIntError(struct core__num__TryFromIntError l1);
-static RT_HERE void core__Destruct__none__drop__all_Self(struct block__fn__zeros__all_Self l1);
-static RT_HERE void core__Destruct__none__drop__between_all_Self_slice_u8_slice_u64(struct resolve__declarations__fn__rows_ok__between_all_Self___17487529 l1);
-static RT_HERE void core__Destruct__none__drop__map_Self(struct lexer__fn__followed__map_Self l1);
-static RT_HERE void core__Destruct__none__drop__position_Self_slice_u8_ref_u64(struct resolve__names__fn__lookup__position_Self__slice_u8_ref_u64 l1);
-static RT_HERE void core__Destruct__none__drop__ref_u8(uint8_t *l1);
-static RT_HERE void core__Destruct__none__drop__u16(uint16_t l1);
-static RT_HERE void core__Destruct__none__drop__u32(uint32_t l1);
-static RT_HERE void core__Destruct__none__drop__u64(uint64_t l1);
-static RT_HERE void core__Destruct__none__drop__u8(uint8_t l1);
-static RT_HERE void core__Destruct__none__drop__unit(void);
+static RT_WITHIN void core__Destruct__none__drop__OperatorError(struct operators__OperatorError l1);
+static RT_WITHIN void core__Destruct__none__drop__Range_u64(struct core__iter__ranges__Range__u64 l1);
+static RT_WITHIN void core__Destruct__none__drop__Refusal(struct types__refusal__Refusal l1);
+static RT_WITHIN void core__Destruct__none__drop__TryFromIntError(struct core__num__TryFromIntError l1);
+static RT_WITHIN void core__Destruct__none__drop__all_Self(struct block__fn__zeros__all_Self l1);
+static RT_WITHIN void core__Destruct__none__drop__between_all_Self_slice_u8_slice_u64(struct resolve__declarations__fn__rows_ok__between_all_Self___17487529 l1);
+static RT_WITHIN void core__Destruct__none__drop__map_Self(struct lexer__fn__followed__map_Self l1);
+static RT_WITHIN void core__Destruct__none__drop__position_Self_slice_u8_ref_u64(struct resolve__names__fn__lookup__position_Self__slice_u8_ref_u64 l1);
+static RT_WITHIN void core__Destruct__none__drop__ref_u8(uint8_t *l1);
+static RT_WITHIN void core__Destruct__none__drop__u16(uint16_t l1);
+static RT_WITHIN void core__Destruct__none__drop__u32(uint32_t l1);
+static RT_WITHIN void core__Destruct__none__drop__u64(uint64_t l1);
+static RT_WITHIN void core__Destruct__none__drop__u8(uint8_t l1);
+static RT_WITHIN void core__Destruct__none__drop__unit(void);
 static inline void core__assertions__unreachable(void);
 static inline uint8_t core__char__bytes__is_ascii_alphabetic(uint8_t *l1);
 static inline uint8_t core__char__bytes__is_ascii_alphanumeric(uint8_t *l1);
@@ -1095,43 +1100,43 @@ static inline uint8_t core__char__bytes__is_ascii_digit(uint8_t *l1);
 static inline uint8_t core__char__ranges__in_range(uint32_t l1, uint8_t l2, uint8_t l3);
 static inline uint8_t core__char__ranges__in_three_ranges(uint32_t l1, uint8_t l2, uint8_t l3, uint8_t l4, uint8_t l5, uint8_t l6, uint8_t l7);
 static inline uint8_t core__char__ranges__in_two_ranges(uint32_t l1, uint8_t l2, uint8_t l3, uint8_t l4, uint8_t l5);
-static RT_HERE struct core__result__Result__u8_AllocError core__clone__U8Clone__clone(uint8_t *l1);
-static RT_HERE uint8_t core__clone__surely__u8(uint8_t *l1);
+static RT_WITHIN struct core__result__Result__u8_AllocError core__clone__U8Clone__clone(uint8_t *l1);
+static RT_WITHIN uint8_t core__clone__surely__u8(uint8_t *l1);
 static inline uint8_t core__cmp__Ordering__is_le(struct core__cmp__Ordering l1);
 static inline uint8_t core__cmp__Ordering__is_lt(struct core__cmp__Ordering l1);
-static RT_HERE uint8_t core__cmp__PartialOrd__le__u8(uint8_t *l1, uint8_t *l2);
-static RT_HERE uint8_t core__cmp__PartialOrd__lt__u8(uint8_t *l1, uint8_t *l2);
-static RT_HERE struct core__cmp__Ordering core__cmp__numbers__U8Ord__cmp(uint8_t *l1, uint8_t *l2);
-static RT_HERE uint8_t core__cmp__numbers__U8PartialEq__eq(uint8_t *l1, uint8_t *l2);
-static RT_HERE struct core__option__Option__Ordering core__cmp__numbers__U8PartialOrd__partial_cmp(uint8_t *l1, uint8_t *l2);
-static RT_HERE uint8_t core__cmp__slices__ElementMismatchPlaceTest__at__u8(uint8_t *l1, uint64_t l2);
-static RT_HERE uint8_t core__cmp__slices__RefSlicePartialEq__eq__u8(uint8_t *l1, uint8_t *l2);
-static RT_HERE uint8_t core__cmp__slices__all_equal__u8(rt_slice l1, rt_slice l2);
-static RT_HERE uint8_t core__cmp__slices__groups_equal__u8(rt_slice l1, rt_slice l2);
-static RT_HERE uint8_t core__cmp__slices__parts_equal__u8(rt_slice l1, rt_slice l2);
-static RT_HERE uint8_t core__cmp__slices__slices_equal__u8(rt_slice l1, rt_slice l2);
-static RT_HERE struct operators__OperatorError core__convert__AnyFrom__from__OperatorError(struct operators__OperatorError l1);
-static RT_HERE struct types__refusal__Refusal core__convert__AnyFrom__from__Refusal(struct types__refusal__Refusal l1);
-static RT_HERE uint64_t core__convert__I64FromI32__from(uint32_t l1);
-static RT_HERE uint16_t core__convert__U16FromU8__from(uint8_t l1);
-static RT_HERE uint32_t core__convert__U32FromU16__from(uint16_t l1);
-static RT_HERE uint32_t core__convert__U32FromU8__from(uint8_t l1);
-static RT_HERE uint64_t core__convert__U64FromU32__from(uint32_t l1);
-static RT_HERE uint64_t core__convert__U64FromU8__from(uint8_t l1);
-static RT_HERE uint64_t core__convert__UsizeFromU16__from(uint16_t l1);
-static RT_HERE uint64_t core__convert__UsizeFromU8__from(uint8_t l1);
-static RT_HERE uint32_t core__convert__others__U32FromBool__from(uint8_t l1);
-static RT_HERE uint64_t core__convert__others__UsizeFromBool__from(uint8_t l1);
-static RT_HERE struct core__result__Result__u32_TryFromIntError core__convert__try_from__AnyTryFrom__try_from__u64_u32(uint64_t l1);
-static RT_HERE struct core__option__Option__u32 core__convert__try_from__I32Integer__join(uint8_t l1, uint64_t l2);
-static RT_HERE struct rt_tuple2__bool_u64 core__convert__try_from__I64Integer__split(uint64_t l1);
-static RT_HERE struct core__option__Option__u32 core__convert__try_from__U32Integer__join(uint8_t l1, uint64_t l2);
-static RT_HERE struct rt_tuple2__bool_u64 core__convert__try_from__U64Integer__split(uint64_t l1);
-static RT_HERE struct rt_tuple3__Slots_u16_unit_unit core__core__slice__edits__copy_over_FnOnce__call_once__u16(struct core__slots__Slots__u16 l2, rt_slice l4);
-static RT_HERE struct rt_tuple3__Slots_u64_unit_unit core__core__slice__edits__copy_over_FnOnce__call_once__u64(struct core__slots__Slots__u64 l2, rt_slice l4);
-static RT_HERE struct rt_tuple3__Slots_u8_unit_unit core__core__slice__edits__copy_over_FnOnce__call_once__u8(struct core__slots__Slots__u8 l2, rt_slice l4);
-static RT_HERE uint16_t core__default__U16Default__default(void);
-static RT_HERE uint64_t core__default__U64Default__default(void);
+static RT_WITHIN uint8_t core__cmp__PartialOrd__le__u8(uint8_t *l1, uint8_t *l2);
+static RT_WITHIN uint8_t core__cmp__PartialOrd__lt__u8(uint8_t *l1, uint8_t *l2);
+static RT_WITHIN struct core__cmp__Ordering core__cmp__numbers__U8Ord__cmp(uint8_t *l1, uint8_t *l2);
+static RT_WITHIN uint8_t core__cmp__numbers__U8PartialEq__eq(uint8_t *l1, uint8_t *l2);
+static RT_WITHIN struct core__option__Option__Ordering core__cmp__numbers__U8PartialOrd__partial_cmp(uint8_t *l1, uint8_t *l2);
+static RT_WITHIN uint8_t core__cmp__slices__ElementMismatchPlaceTest__at__u8(uint8_t *l1, uint64_t l2);
+static RT_WITHIN uint8_t core__cmp__slices__RefSlicePartialEq__eq__u8(uint8_t *l1, uint8_t *l2);
+static RT_WITHIN uint8_t core__cmp__slices__all_equal__u8(rt_slice l1, rt_slice l2);
+static RT_WITHIN uint8_t core__cmp__slices__groups_equal__u8(rt_slice l1, rt_slice l2);
+static RT_WITHIN uint8_t core__cmp__slices__parts_equal__u8(rt_slice l1, rt_slice l2);
+static RT_WITHIN uint8_t core__cmp__slices__slices_equal__u8(rt_slice l1, rt_slice l2);
+static RT_WITHIN struct operators__OperatorError core__convert__AnyFrom__from__OperatorError(struct operators__OperatorError l1);
+static RT_WITHIN struct types__refusal__Refusal core__convert__AnyFrom__from__Refusal(struct types__refusal__Refusal l1);
+static RT_WITHIN uint64_t core__convert__I64FromI32__from(uint32_t l1);
+static RT_WITHIN uint16_t core__convert__U16FromU8__from(uint8_t l1);
+static RT_WITHIN uint32_t core__convert__U32FromU16__from(uint16_t l1);
+static RT_WITHIN uint32_t core__convert__U32FromU8__from(uint8_t l1);
+static RT_WITHIN uint64_t core__convert__U64FromU32__from(uint32_t l1);
+static RT_WITHIN uint64_t core__convert__U64FromU8__from(uint8_t l1);
+static RT_WITHIN uint64_t core__convert__UsizeFromU16__from(uint16_t l1);
+static RT_WITHIN uint64_t core__convert__UsizeFromU8__from(uint8_t l1);
+static RT_WITHIN uint32_t core__convert__others__U32FromBool__from(uint8_t l1);
+static RT_WITHIN uint64_t core__convert__others__UsizeFromBool__from(uint8_t l1);
+static RT_WITHIN struct core__result__Result__u32_TryFromIntError core__convert__try_from__AnyTryFrom__try_from__u64_u32(uint64_t l1);
+static RT_WITHIN struct core__option__Option__u32 core__convert__try_from__I32Integer__join(uint8_t l1, uint64_t l2);
+static RT_WITHIN struct rt_tuple2__bool_u64 core__convert__try_from__I64Integer__split(uint64_t l1);
+static RT_WITHIN struct core__option__Option__u32 core__convert__try_from__U32Integer__join(uint8_t l1, uint64_t l2);
+static RT_WITHIN struct rt_tuple2__bool_u64 core__convert__try_from__U64Integer__split(uint64_t l1);
+static RT_WITHIN struct rt_tuple3__Slots_u16_unit_unit core__core__slice__edits__copy_over_FnOnce__call_once__u16(struct core__slots__Slots__u16 l2, rt_slice l4);
+static RT_WITHIN struct rt_tuple3__Slots_u64_unit_unit core__core__slice__edits__copy_over_FnOnce__call_once__u64(struct core__slots__Slots__u64 l2, rt_slice l4);
+static RT_WITHIN struct rt_tuple3__Slots_u8_unit_unit core__core__slice__edits__copy_over_FnOnce__call_once__u8(struct core__slots__Slots__u8 l2, rt_slice l4);
+static RT_WITHIN uint16_t core__default__U16Default__default(void);
+static RT_WITHIN uint64_t core__default__U64Default__default(void);
 static inline struct core__option__Option__u32 core__int__checked__u32__checked_add(uint32_t l1, uint32_t l2);
 static inline struct core__option__Option__u32 core__int__checked__u32__checked_div(uint32_t l1, uint32_t l2);
 static inline struct core__option__Option__u32 core__int__checked__u32__checked_mul(uint32_t l1, uint32_t l2);
@@ -1154,117 +1159,117 @@ static inline uint64_t core__int__usize__div_ceil(uint64_t l1, uint64_t l2);
 static inline uint64_t core__int__usize__max(uint64_t l1, uint64_t l2);
 static inline uint64_t core__int__usize__min(uint64_t l1, uint64_t l2);
 static inline uint64_t core__int__usize__saturating_sub(uint64_t l1, uint64_t l2);
-static RT_HERE uint8_t core__iter__base__Iterator__all__Iter_u8_ref_u8_all_Self(uint8_t *l1, struct block__fn__zeros__all_Self l2);
-static RT_HERE uint8_t core__iter__ranges__RangeInclusive__contains__u8(uint8_t *l1, uint8_t *l2);
-static RT_HERE struct core__iter__ranges__RangeInclusive__u8 core__iter__ranges__RangeInclusive__new__u8(uint8_t l1, uint8_t l2);
-static RT_HERE struct core__option__Option__ref_u64 core__iter__slices__IterIterator__next__u64(uint8_t *l1);
-static RT_HERE struct core__option__Option__ref_u8 core__iter__slices__IterIterator__next__u8(uint8_t *l1);
-static RT_HERE struct core__iter__slices__Iter__u64 core__iter__slices__slice_T__iter__u64(rt_slice l1);
-static RT_HERE struct core__iter__slices__Iter__u8 core__iter__slices__slice_T__iter__u8(rt_slice l1);
-static RT_HERE uint64_t core__mem__size_of_param__u8(void);
-static RT_HERE struct core__ops__bounds__Bound__ref_u64 core__ops__bounds__RangeRangeBounds__end_bound__u64(uint8_t *l1);
-static RT_HERE struct core__ops__bounds__Bound__ref_u64 core__ops__bounds__RangeRangeBounds__start_bound__u64(uint8_t *l1);
-static RT_HERE uint8_t core__option__Option__is_none__rt_tuple2_u8_u64(uint8_t *l1);
-static RT_HERE uint8_t core__option__Option__is_none__u64(uint8_t *l1);
-static RT_HERE uint8_t core__option__Option__is_some__Row(uint8_t *l1);
-static RT_HERE uint8_t core__option__Option__is_some__u64(uint8_t *l1);
-static RT_HERE struct core__option__Option__rt_tuple2_u8_u64 core__option__Option__map__u8_rt_tuple2_u8_u64_map_Self(struct core__option__Option__u8 l1, struct lexer__fn__followed__map_Self l2);
-static RT_HERE struct core__result__Result__u32_OperatorError core__option__Option__ok_or__u32_OperatorError(struct core__option__Option__u32 l1, struct operators__OperatorError l2);
-static RT_HERE struct core__result__Result__u64_Refusal core__option__Option__ok_or__u64_Refusal(struct core__option__Option__u64 l1, struct types__refusal__Refusal l2);
-static RT_HERE uint8_t *core__option__Option__unwrap__ref_u16(struct core__option__Option__ref_u16 l1);
-static RT_HERE uint8_t *core__option__Option__unwrap__ref_u8(struct core__option__Option__ref_u8 l1);
-static RT_HERE uint16_t core__option__Option__unwrap_or__u16(struct core__option__Option__u16 l1, uint16_t l2);
-static RT_HERE uint32_t core__option__Option__unwrap_or__u32(struct core__option__Option__u32 l1, uint32_t l2);
-static RT_HERE uint64_t core__option__Option__unwrap_or__u64(struct core__option__Option__u64 l1, uint64_t l2);
-static RT_HERE uint8_t core__option__Option__unwrap_or__u8(struct core__option__Option__u8 l1, uint8_t l2);
-static RT_HERE struct core__option__Option__ref_u8 core__option__OptionFromResidualNoValue__from_residual__ref_u8(struct core__option__NoValue l1);
-static RT_HERE struct core__option__Option__u64 core__option__OptionFromResidualNoValue__from_residual__u64(struct core__option__NoValue l1);
-static RT_HERE struct core__ops__ControlFlow__NoValue_ref_u8 core__option__OptionTry__branch__ref_u8(struct core__option__Option__ref_u8 l1);
-static RT_HERE struct core__ops__ControlFlow__NoValue_rt_tuple2_u8_u64 core__option__OptionTry__branch__rt_tuple2_u8_u64(struct core__option__Option__rt_tuple2_u8_u64 l1);
-static RT_HERE struct core__ops__ControlFlow__NoValue_u32 core__option__OptionTry__branch__u32(struct core__option__Option__u32 l1);
-static RT_HERE struct core__ops__ControlFlow__NoValue_u64 core__option__OptionTry__branch__u64(struct core__option__Option__u64 l1);
-static RT_HERE struct core__ops__ControlFlow__NoValue_u8 core__option__OptionTry__branch__u8(struct core__option__Option__u8 l1);
-static RT_HERE struct core__option__Option__u16 core__option__more__Option_ref_T__copied__u16(struct core__option__Option__ref_u16 l1);
-static RT_HERE struct core__option__Option__u8 core__option__more__Option_ref_T__copied__u8(struct core__option__Option__ref_u8 l1);
-static RT_HERE void core__ptr__copy_drop__copy_bits__u16(uint8_t *l1, uint8_t *l2, uint64_t l3);
-static RT_HERE void core__ptr__copy_drop__copy_bits__u64(uint8_t *l1, uint8_t *l2, uint64_t l3);
-static RT_HERE void core__ptr__copy_drop__copy_bits__u8(uint8_t *l1, uint8_t *l2, uint64_t l3);
-static RT_HERE struct core__option__Option__u32 core__result__Result__ok__u32_TryFromIntError(struct core__result__Result__u32_TryFromIntError l1);
-static RT_HERE struct core__ops__ControlFlow__ErrResidual_Refusal_Loaded core__result__ResultTry__branch__Loaded_Refusal(struct core__result__Result__Loaded_Refusal l1);
-static RT_HERE struct core__ops__ControlFlow__ErrResidual_Refusal_Seat core__result__ResultTry__branch__Seat_Refusal(struct core__result__Result__Seat_Refusal l1);
-static RT_HERE struct core__ops__ControlFlow__ErrResidual_Refusal_count_images_Counts core__result__ResultTry__branch__count_images_Counts_Refusal(struct core__result__Result__count_images_Counts_Refusal l1);
-static RT_HERE struct core__ops__ControlFlow__ErrResidual_Refusal_rt_tuple2_u64_Done core__result__ResultTry__branch__rt_tuple2_u64_Done_Refusal(struct core__result__Result__rt_tuple2_u64_Done_Refusal l1);
-static RT_HERE struct core__ops__ControlFlow__ErrResidual_Refusal_rt_tuple2_u64_Facts core__result__ResultTry__branch__rt_tuple2_u64_Facts_Refusal(struct core__result__Result__rt_tuple2_u64_Facts_Refusal l1);
-static RT_HERE struct core__ops__ControlFlow__ErrResidual_Refusal_rt_tuple2__d7d566f0 core__result__ResultTry__branch__rt_tuple2_u64_Planned_Refusal(struct core__result__Result__rt_tuple2_u64_Planned_Refusal l1);
-static RT_HERE struct core__ops__ControlFlow__ErrResidual_Refusal_rt_tuple2__a4800219 core__result__ResultTry__branch__rt_tuple2_u64_Summary_Refusal(struct core__result__Result__rt_tuple2_u64_Summary_Refusal l1);
-static RT_HERE struct core__ops__ControlFlow__ErrResidual_Refusal_rt_tuple2__da2d7d9c core__result__ResultTry__branch__rt_tuple2_u64_Totals_Refusal(struct core__result__Result__rt_tuple2_u64_Totals_Refusal l1);
-static RT_HERE struct core__ops__ControlFlow__ErrResidual_Refusal_rt_tuple2_u64_u8 core__result__ResultTry__branch__rt_tuple2_u64_u8_Refusal(struct core__result__Result__rt_tuple2_u64_u8_Refusal l1);
-static RT_HERE struct core__ops__ControlFlow__ErrResidual_Refusal_rt_tuple2_u8_u64 core__result__ResultTry__branch__rt_tuple2_u8_u64_Refusal(struct core__result__Result__rt_tuple2_u8_u64_Refusal l1);
-static RT_HERE struct core__ops__ControlFlow__ErrResidual_NoProgram_u64 core__result__ResultTry__branch__u64_NoProgram(struct core__result__Result__u64_NoProgram l1);
-static RT_HERE struct core__ops__ControlFlow__ErrResidual_OperatorError_u64 core__result__ResultTry__branch__u64_OperatorError(struct core__result__Result__u64_OperatorError l1);
-static RT_HERE struct core__ops__ControlFlow__ErrResidual_Refusal_u64 core__result__ResultTry__branch__u64_Refusal(struct core__result__Result__u64_Refusal l1);
-static RT_HERE struct core__ops__ControlFlow__ErrResidual_Refusal_unit core__result__ResultTry__branch__unit_Refusal(struct core__result__Result__unit_Refusal l1);
-static RT_HERE struct rt_tuple3__Slots_u16_unit_unit core__slice__edits__copy_over__u16(struct core__slots__Slots__u16 l1, rt_slice l3);
-static RT_HERE struct rt_tuple3__Slots_u64_unit_unit core__slice__edits__copy_over__u64(struct core__slots__Slots__u64 l1, rt_slice l3);
-static RT_HERE struct rt_tuple3__Slots_u8_unit_unit core__slice__edits__copy_over__u8(struct core__slots__Slots__u8 l1, rt_slice l3);
-static RT_HERE void core__slice__edits__slice_T__copy_from_slice__u16(rt_slice l1, rt_slice l2);
-static RT_HERE void core__slice__edits__slice_T__copy_from_slice__u64(rt_slice l1, rt_slice l2);
-static RT_HERE void core__slice__edits__slice_T__copy_from_slice__u8(rt_slice l1, rt_slice l2);
-static RT_HERE void core__slice__edits__slice_T__fill__u8(rt_slice l1, uint8_t l2);
-static RT_HERE struct core__option__Option__ref_u16 core__slice__index__UsizeSliceIndexRefSlice__pick__u16(uint64_t l1, rt_slice l2);
-static RT_HERE struct core__option__Option__ref_u8 core__slice__index__UsizeSliceIndexRefSlice__pick__u8(uint64_t l1, rt_slice l2);
-static RT_HERE struct core__iter__ranges__Range__u64 core__slice__ranges__range__Range_u64(struct core__iter__ranges__Range__u64 l1, struct core__iter__ranges__RangeTo__u64 l2);
-static RT_HERE uint8_t core__slice__scan__any_by_groups__ElementMismatch_u8(uint8_t *l1, uint64_t l2, uint64_t l3);
-static RT_HERE uint8_t core__slice__scan__any_by_one__ElementMismatch_u8(uint8_t *l1, uint64_t l2);
-static RT_HERE uint8_t core__slice__scan__any_in_ends__ElementMismatch_u8(uint8_t *l1, uint64_t l2, uint64_t l3);
-static RT_HERE uint8_t core__slice__scan__any_in_quarters__ElementMismatch_u8(uint8_t *l1, uint64_t l2, uint64_t l3);
-static RT_HERE uint8_t core__slice__scan__any_in_run__ElementMismatch_u8(uint8_t *l1, uint64_t l2, uint64_t l3);
-static RT_HERE uint8_t core__slice__scan__any_in_three__ElementMismatch_u8(uint8_t *l1, uint64_t l2);
-static RT_HERE uint8_t core__slice__scan__any_in_turn__ElementMismatch_u8(uint8_t *l1, uint64_t l2);
-static RT_HERE uint64_t core__slice__scan__first_by_one__ElementMismatch_u8(uint8_t *l1, uint64_t l2, uint64_t l3);
-static RT_HERE uint64_t core__slice__scan__group__u8(void);
-static RT_HERE uint64_t core__slice__scan__skip_groups__ElementMismatch_u8(uint8_t *l1, uint64_t l2, uint64_t l3, uint64_t l4);
-static RT_HERE struct core__option__Option__ref_u16 core__slice__slice_T__get__u16_u64_ref_u16(rt_slice l1, uint64_t l2);
-static RT_HERE struct core__option__Option__ref_u8 core__slice__slice_T__get__u8_u64_ref_u8(rt_slice l1, uint64_t l2);
-static RT_HERE uint8_t core__slice__slice_T__is_empty__u64(rt_slice l1);
-static RT_HERE uint8_t core__slice__slice_T__is_empty__u8(rt_slice l1);
-static RT_HERE void core__slots__Slots__copy_in__u16(uint8_t *l1, uint64_t l2, rt_slice l3);
-static RT_HERE void core__slots__Slots__copy_in__u64(uint8_t *l1, uint64_t l2, rt_slice l3);
-static RT_HERE void core__slots__Slots__copy_in__u8(uint8_t *l1, uint64_t l2, rt_slice l3);
-static RT_HERE void core__slots__lends__with_slots__u16_unit_slice_u16_unit_unit(rt_slice l1, uint8_t *l2, rt_slice l3);
-static RT_HERE void core__slots__lends__with_slots__u64_unit_slice_u64_unit_unit(rt_slice l1, uint8_t *l2, rt_slice l3);
-static RT_HERE void core__slots__lends__with_slots__u8_unit_slice_u8_unit_unit(rt_slice l1, uint8_t *l2, rt_slice l3);
-static RT_HERE void core__Destruct__none__drop__TakeWhile_Iter_u8_digits_t_2927e43b(struct core__iter__closures__TakeWhile__Iter_u8_digits_take_while_Self l1);
-static RT_HERE void core__Destruct__none__drop__TakeWhile_Iter_u8_names_ta_e5f448fb(struct core__iter__closures__TakeWhile__Iter_u8_names_take_while_Self l1);
-static RT_HERE struct core__result__Result__u32_TryFromIntError core__convert__try_from__AnyTryFrom__try_from__u64_u32_ecc00421(uint64_t l1);
-static RT_HERE uint64_t core__iter__base__Iterator__count__TakeWhile_Iter_u8_d_9e11d280(struct core__iter__closures__TakeWhile__Iter_u8_digits_take_while_Self l1);
-static RT_HERE uint64_t core__iter__base__Iterator__count__TakeWhile_Iter_u8_n_4eee487b(struct core__iter__closures__TakeWhile__Iter_u8_names_take_while_Self l1);
-static RT_HERE struct core__option__Option__u64 core__iter__base__Iterator__position__Iter_u64_ref_u64_86bdc99e(uint8_t *l1, struct resolve__names__fn__lookup__position_Self__slice_u8_ref_u64 l2);
-static RT_HERE struct core__iter__closures__TakeWhile__Iter_u8_names_take_while_Self core__iter__base__Iterator__take_while__Iter_u8_ref_u8_a9fc4690(struct core__iter__slices__Iter__u8 l1, struct lexer__bytes__fn__names__take_while_Self l2);
-static RT_HERE struct core__iter__closures__TakeWhile__Iter_u8_digits_take_while_Self core__iter__base__Iterator__take_while__Iter_u8_ref_u8_de663524(struct core__iter__slices__Iter__u8 l1, struct lexer__bytes__fn__digits__take_while_Self l2);
-static RT_HERE struct core__option__Option__ref_u8 core__iter__closures__TakeWhileIterator__next__Iter_u8_7c5d0d01(uint8_t *l1);
-static RT_HERE struct core__option__Option__ref_u8 core__iter__closures__TakeWhileIterator__next__Iter_u8_bad0302d(uint8_t *l1);
-static RT_HERE struct core__option__Option__rt_tuple2_u8_u64 core__option__OptionFromResidualNoValue__from_residual_e4dc67fa(struct core__option__NoValue l1);
-static RT_HERE struct core__option__Option__rt_tuple2_uses_Scope_Option_u8 core__option__OptionFromResidualNoValue__from_residual_e7cc27ad(struct core__option__NoValue l1);
-static RT_HERE struct core__result__Result__u32_Refusal core__result__ResultFromResidualErrResidual__from_resi_07f82ab4(struct core__result__ErrResidual__NoProgram l1);
-static RT_HERE struct core__result__Result__u32_OperatorError core__result__ResultFromResidualErrResidual__from_resi_153600e2(struct core__result__ErrResidual__OperatorError l1);
-static RT_HERE struct core__result__Result__rt_tuple2_u64_u8_Refusal core__result__ResultFromResidualErrResidual__from_resi_199ff778(struct core__result__ErrResidual__Refusal l1);
-static RT_HERE struct core__result__Result__rt_tuple3_u64_u8_Judged_Refusal core__result__ResultFromResidualErrResidual__from_resi_29dc3d9d(struct core__result__ErrResidual__Refusal l1);
-static RT_HERE struct core__result__Result__u32_Refusal core__result__ResultFromResidualErrResidual__from_resi_29ec18ee(struct core__result__ErrResidual__Refusal l1);
-static RT_HERE struct core__result__Result__count_images_Counts_Refusal core__result__ResultFromResidualErrResidual__from_resi_31930649(struct core__result__ErrResidual__Refusal l1);
-static RT_HERE struct core__result__Result__Loaded_Refusal core__result__ResultFromResidualErrResidual__from_resi_3d5841e5(struct core__result__ErrResidual__Refusal l1);
-static RT_HERE struct core__result__Result__rt_tuple2_u8_u64_Refusal core__result__ResultFromResidualErrResidual__from_resi_79390567(struct core__result__ErrResidual__Refusal l1);
-static RT_HERE struct core__result__Result__Seat_Refusal core__result__ResultFromResidualErrResidual__from_resi_865746fe(struct core__result__ErrResidual__Refusal l1);
-static RT_HERE struct core__result__Result__rt_tuple2_u64_Done_Refusal core__result__ResultFromResidualErrResidual__from_resi_8768edf0(struct core__result__ErrResidual__Refusal l1);
-static RT_HERE struct core__result__Result__u64_OperatorError core__result__ResultFromResidualErrResidual__from_resi_8fddf8e3(struct core__result__ErrResidual__OperatorError l1);
-static RT_HERE struct core__result__Result__Opened_Refusal core__result__ResultFromResidualErrResidual__from_resi_94ec4b81(struct core__result__ErrResidual__Refusal l1);
-static RT_HERE struct core__result__Result__rt_tuple2_u64_Summary_Refusal core__result__ResultFromResidualErrResidual__from_resi_9aee97b7(struct core__result__ErrResidual__Refusal l1);
-static RT_HERE struct core__result__Result__run_images_Report_Refusal core__result__ResultFromResidualErrResidual__from_resi_abcbd695(struct core__result__ErrResidual__Refusal l1);
-static RT_HERE struct core__result__Result__rt_tuple2_u64_Totals_Refusal core__result__ResultFromResidualErrResidual__from_resi_e2c23d53(struct core__result__ErrResidual__Refusal l1);
-static RT_HERE struct core__result__Result__rt_tuple2_u64_Planned_Refusal core__result__ResultFromResidualErrResidual__from_resi_e75b3344(struct core__result__ErrResidual__Refusal l1);
-static RT_HERE struct core__result__Result__u64_Refusal core__result__ResultFromResidualErrResidual__from_resi_f9cf8d89(struct core__result__ErrResidual__Refusal l1);
-static RT_HERE struct core__result__Result__rt_tuple2_u64_Facts_Refusal core__result__ResultFromResidualErrResidual__from_resi_fbfd7bc2(struct core__result__ErrResidual__Refusal l1);
-static RT_HERE struct core__ops__ControlFlow__ErrResidual_Refusal_rt_tuple3__6dda1656 core__result__ResultTry__branch__rt_tuple3_u64_u8_Judg_d80f38d1(struct core__result__Result__rt_tuple3_u64_u8_Judged_Refusal l1);
+static RT_WITHIN uint8_t core__iter__base__Iterator__all__Iter_u8_ref_u8_all_Self(uint8_t *l1, struct block__fn__zeros__all_Self l2);
+static RT_WITHIN uint8_t core__iter__ranges__RangeInclusive__contains__u8(uint8_t *l1, uint8_t *l2);
+static RT_WITHIN struct core__iter__ranges__RangeInclusive__u8 core__iter__ranges__RangeInclusive__new__u8(uint8_t l1, uint8_t l2);
+static RT_WITHIN struct core__option__Option__ref_u64 core__iter__slices__IterIterator__next__u64(uint8_t *l1);
+static RT_WITHIN struct core__option__Option__ref_u8 core__iter__slices__IterIterator__next__u8(uint8_t *l1);
+static RT_WITHIN struct core__iter__slices__Iter__u64 core__iter__slices__slice_T__iter__u64(rt_slice l1);
+static RT_WITHIN struct core__iter__slices__Iter__u8 core__iter__slices__slice_T__iter__u8(rt_slice l1);
+static RT_WITHIN uint64_t core__mem__size_of_param__u8(void);
+static RT_WITHIN struct core__ops__bounds__Bound__ref_u64 core__ops__bounds__RangeRangeBounds__end_bound__u64(uint8_t *l1);
+static RT_WITHIN struct core__ops__bounds__Bound__ref_u64 core__ops__bounds__RangeRangeBounds__start_bound__u64(uint8_t *l1);
+static RT_WITHIN uint8_t core__option__Option__is_none__rt_tuple2_u8_u64(uint8_t *l1);
+static RT_WITHIN uint8_t core__option__Option__is_none__u64(uint8_t *l1);
+static RT_WITHIN uint8_t core__option__Option__is_some__Row(uint8_t *l1);
+static RT_WITHIN uint8_t core__option__Option__is_some__u64(uint8_t *l1);
+static RT_WITHIN struct core__option__Option__rt_tuple2_u8_u64 core__option__Option__map__u8_rt_tuple2_u8_u64_map_Self(struct core__option__Option__u8 l1, struct lexer__fn__followed__map_Self l2);
+static RT_WITHIN struct core__result__Result__u32_OperatorError core__option__Option__ok_or__u32_OperatorError(struct core__option__Option__u32 l1, struct operators__OperatorError l2);
+static RT_WITHIN struct core__result__Result__u64_Refusal core__option__Option__ok_or__u64_Refusal(struct core__option__Option__u64 l1, struct types__refusal__Refusal l2);
+static RT_WITHIN uint8_t *core__option__Option__unwrap__ref_u16(struct core__option__Option__ref_u16 l1);
+static RT_WITHIN uint8_t *core__option__Option__unwrap__ref_u8(struct core__option__Option__ref_u8 l1);
+static RT_WITHIN uint16_t core__option__Option__unwrap_or__u16(struct core__option__Option__u16 l1, uint16_t l2);
+static RT_WITHIN uint32_t core__option__Option__unwrap_or__u32(struct core__option__Option__u32 l1, uint32_t l2);
+static RT_WITHIN uint64_t core__option__Option__unwrap_or__u64(struct core__option__Option__u64 l1, uint64_t l2);
+static RT_WITHIN uint8_t core__option__Option__unwrap_or__u8(struct core__option__Option__u8 l1, uint8_t l2);
+static RT_WITHIN struct core__option__Option__ref_u8 core__option__OptionFromResidualNoValue__from_residual__ref_u8(struct core__option__NoValue l1);
+static RT_WITHIN struct core__option__Option__u64 core__option__OptionFromResidualNoValue__from_residual__u64(struct core__option__NoValue l1);
+static RT_WITHIN struct core__ops__ControlFlow__NoValue_ref_u8 core__option__OptionTry__branch__ref_u8(struct core__option__Option__ref_u8 l1);
+static RT_WITHIN struct core__ops__ControlFlow__NoValue_rt_tuple2_u8_u64 core__option__OptionTry__branch__rt_tuple2_u8_u64(struct core__option__Option__rt_tuple2_u8_u64 l1);
+static RT_WITHIN struct core__ops__ControlFlow__NoValue_u32 core__option__OptionTry__branch__u32(struct core__option__Option__u32 l1);
+static RT_WITHIN struct core__ops__ControlFlow__NoValue_u64 core__option__OptionTry__branch__u64(struct core__option__Option__u64 l1);
+static RT_WITHIN struct core__ops__ControlFlow__NoValue_u8 core__option__OptionTry__branch__u8(struct core__option__Option__u8 l1);
+static RT_WITHIN struct core__option__Option__u16 core__option__more__Option_ref_T__copied__u16(struct core__option__Option__ref_u16 l1);
+static RT_WITHIN struct core__option__Option__u8 core__option__more__Option_ref_T__copied__u8(struct core__option__Option__ref_u8 l1);
+static RT_WITHIN void core__ptr__copy_drop__copy_bits__u16(uint8_t *l1, uint8_t *l2, uint64_t l3);
+static RT_WITHIN void core__ptr__copy_drop__copy_bits__u64(uint8_t *l1, uint8_t *l2, uint64_t l3);
+static RT_WITHIN void core__ptr__copy_drop__copy_bits__u8(uint8_t *l1, uint8_t *l2, uint64_t l3);
+static RT_WITHIN struct core__option__Option__u32 core__result__Result__ok__u32_TryFromIntError(struct core__result__Result__u32_TryFromIntError l1);
+static RT_WITHIN struct core__ops__ControlFlow__ErrResidual_Refusal_Loaded core__result__ResultTry__branch__Loaded_Refusal(struct core__result__Result__Loaded_Refusal l1);
+static RT_WITHIN struct core__ops__ControlFlow__ErrResidual_Refusal_Seat core__result__ResultTry__branch__Seat_Refusal(struct core__result__Result__Seat_Refusal l1);
+static RT_WITHIN struct core__ops__ControlFlow__ErrResidual_Refusal_count_images_Counts core__result__ResultTry__branch__count_images_Counts_Refusal(struct core__result__Result__count_images_Counts_Refusal l1);
+static RT_WITHIN struct core__ops__ControlFlow__ErrResidual_Refusal_rt_tuple2_u64_Done core__result__ResultTry__branch__rt_tuple2_u64_Done_Refusal(struct core__result__Result__rt_tuple2_u64_Done_Refusal l1);
+static RT_WITHIN struct core__ops__ControlFlow__ErrResidual_Refusal_rt_tuple2_u64_Facts core__result__ResultTry__branch__rt_tuple2_u64_Facts_Refusal(struct core__result__Result__rt_tuple2_u64_Facts_Refusal l1);
+static RT_WITHIN struct core__ops__ControlFlow__ErrResidual_Refusal_rt_tuple2__d7d566f0 core__result__ResultTry__branch__rt_tuple2_u64_Planned_Refusal(struct core__result__Result__rt_tuple2_u64_Planned_Refusal l1);
+static RT_WITHIN struct core__ops__ControlFlow__ErrResidual_Refusal_rt_tuple2__a4800219 core__result__ResultTry__branch__rt_tuple2_u64_Summary_Refusal(struct core__result__Result__rt_tuple2_u64_Summary_Refusal l1);
+static RT_WITHIN struct core__ops__ControlFlow__ErrResidual_Refusal_rt_tuple2__da2d7d9c core__result__ResultTry__branch__rt_tuple2_u64_Totals_Refusal(struct core__result__Result__rt_tuple2_u64_Totals_Refusal l1);
+static RT_WITHIN struct core__ops__ControlFlow__ErrResidual_Refusal_rt_tuple2_u64_u8 core__result__ResultTry__branch__rt_tuple2_u64_u8_Refusal(struct core__result__Result__rt_tuple2_u64_u8_Refusal l1);
+static RT_WITHIN struct core__ops__ControlFlow__ErrResidual_Refusal_rt_tuple2_u8_u64 core__result__ResultTry__branch__rt_tuple2_u8_u64_Refusal(struct core__result__Result__rt_tuple2_u8_u64_Refusal l1);
+static RT_WITHIN struct core__ops__ControlFlow__ErrResidual_NoProgram_u64 core__result__ResultTry__branch__u64_NoProgram(struct core__result__Result__u64_NoProgram l1);
+static RT_WITHIN struct core__ops__ControlFlow__ErrResidual_OperatorError_u64 core__result__ResultTry__branch__u64_OperatorError(struct core__result__Result__u64_OperatorError l1);
+static RT_WITHIN struct core__ops__ControlFlow__ErrResidual_Refusal_u64 core__result__ResultTry__branch__u64_Refusal(struct core__result__Result__u64_Refusal l1);
+static RT_WITHIN struct core__ops__ControlFlow__ErrResidual_Refusal_unit core__result__ResultTry__branch__unit_Refusal(struct core__result__Result__unit_Refusal l1);
+static RT_WITHIN struct rt_tuple3__Slots_u16_unit_unit core__slice__edits__copy_over__u16(struct core__slots__Slots__u16 l1, rt_slice l3);
+static RT_WITHIN struct rt_tuple3__Slots_u64_unit_unit core__slice__edits__copy_over__u64(struct core__slots__Slots__u64 l1, rt_slice l3);
+static RT_WITHIN struct rt_tuple3__Slots_u8_unit_unit core__slice__edits__copy_over__u8(struct core__slots__Slots__u8 l1, rt_slice l3);
+static RT_WITHIN void core__slice__edits__slice_T__copy_from_slice__u16(rt_slice l1, rt_slice l2);
+static RT_WITHIN void core__slice__edits__slice_T__copy_from_slice__u64(rt_slice l1, rt_slice l2);
+static RT_WITHIN void core__slice__edits__slice_T__copy_from_slice__u8(rt_slice l1, rt_slice l2);
+static RT_WITHIN void core__slice__edits__slice_T__fill__u8(rt_slice l1, uint8_t l2);
+static RT_WITHIN struct core__option__Option__ref_u16 core__slice__index__UsizeSliceIndexRefSlice__pick__u16(uint64_t l1, rt_slice l2);
+static RT_WITHIN struct core__option__Option__ref_u8 core__slice__index__UsizeSliceIndexRefSlice__pick__u8(uint64_t l1, rt_slice l2);
+static RT_WITHIN struct core__iter__ranges__Range__u64 core__slice__ranges__range__Range_u64(struct core__iter__ranges__Range__u64 l1, struct core__iter__ranges__RangeTo__u64 l2);
+static RT_WITHIN uint8_t core__slice__scan__any_by_groups__ElementMismatch_u8(uint8_t *l1, uint64_t l2, uint64_t l3);
+static RT_WITHIN uint8_t core__slice__scan__any_by_one__ElementMismatch_u8(uint8_t *l1, uint64_t l2);
+static RT_WITHIN uint8_t core__slice__scan__any_in_ends__ElementMismatch_u8(uint8_t *l1, uint64_t l2, uint64_t l3);
+static RT_WITHIN uint8_t core__slice__scan__any_in_quarters__ElementMismatch_u8(uint8_t *l1, uint64_t l2, uint64_t l3);
+static RT_WITHIN uint8_t core__slice__scan__any_in_run__ElementMismatch_u8(uint8_t *l1, uint64_t l2, uint64_t l3);
+static RT_WITHIN uint8_t core__slice__scan__any_in_three__ElementMismatch_u8(uint8_t *l1, uint64_t l2);
+static RT_WITHIN uint8_t core__slice__scan__any_in_turn__ElementMismatch_u8(uint8_t *l1, uint64_t l2);
+static RT_WITHIN uint64_t core__slice__scan__first_by_one__ElementMismatch_u8(uint8_t *l1, uint64_t l2, uint64_t l3);
+static RT_WITHIN uint64_t core__slice__scan__group__u8(void);
+static RT_WITHIN uint64_t core__slice__scan__skip_groups__ElementMismatch_u8(uint8_t *l1, uint64_t l2, uint64_t l3, uint64_t l4);
+static RT_WITHIN struct core__option__Option__ref_u16 core__slice__slice_T__get__u16_u64_ref_u16(rt_slice l1, uint64_t l2);
+static RT_WITHIN struct core__option__Option__ref_u8 core__slice__slice_T__get__u8_u64_ref_u8(rt_slice l1, uint64_t l2);
+static RT_WITHIN uint8_t core__slice__slice_T__is_empty__u64(rt_slice l1);
+static RT_WITHIN uint8_t core__slice__slice_T__is_empty__u8(rt_slice l1);
+static RT_WITHIN void core__slots__Slots__copy_in__u16(uint8_t *l1, uint64_t l2, rt_slice l3);
+static RT_WITHIN void core__slots__Slots__copy_in__u64(uint8_t *l1, uint64_t l2, rt_slice l3);
+static RT_WITHIN void core__slots__Slots__copy_in__u8(uint8_t *l1, uint64_t l2, rt_slice l3);
+static RT_WITHIN void core__slots__lends__with_slots__u16_unit_slice_u16_unit_unit(rt_slice l1, uint8_t *l2, rt_slice l3);
+static RT_WITHIN void core__slots__lends__with_slots__u64_unit_slice_u64_unit_unit(rt_slice l1, uint8_t *l2, rt_slice l3);
+static RT_WITHIN void core__slots__lends__with_slots__u8_unit_slice_u8_unit_unit(rt_slice l1, uint8_t *l2, rt_slice l3);
+static RT_WITHIN void core__Destruct__none__drop__TakeWhile_Iter_u8_digits_t_2927e43b(struct core__iter__closures__TakeWhile__Iter_u8_digits_take_while_Self l1);
+static RT_WITHIN void core__Destruct__none__drop__TakeWhile_Iter_u8_names_ta_e5f448fb(struct core__iter__closures__TakeWhile__Iter_u8_names_take_while_Self l1);
+static RT_WITHIN struct core__result__Result__u32_TryFromIntError core__convert__try_from__AnyTryFrom__try_from__u64_u32_ecc00421(uint64_t l1);
+static RT_WITHIN uint64_t core__iter__base__Iterator__count__TakeWhile_Iter_u8_d_9e11d280(struct core__iter__closures__TakeWhile__Iter_u8_digits_take_while_Self l1);
+static RT_WITHIN uint64_t core__iter__base__Iterator__count__TakeWhile_Iter_u8_n_4eee487b(struct core__iter__closures__TakeWhile__Iter_u8_names_take_while_Self l1);
+static RT_WITHIN struct core__option__Option__u64 core__iter__base__Iterator__position__Iter_u64_ref_u64_86bdc99e(uint8_t *l1, struct resolve__names__fn__lookup__position_Self__slice_u8_ref_u64 l2);
+static RT_WITHIN struct core__iter__closures__TakeWhile__Iter_u8_names_take_while_Self core__iter__base__Iterator__take_while__Iter_u8_ref_u8_a9fc4690(struct core__iter__slices__Iter__u8 l1, struct lexer__bytes__fn__names__take_while_Self l2);
+static RT_WITHIN struct core__iter__closures__TakeWhile__Iter_u8_digits_take_while_Self core__iter__base__Iterator__take_while__Iter_u8_ref_u8_de663524(struct core__iter__slices__Iter__u8 l1, struct lexer__bytes__fn__digits__take_while_Self l2);
+static RT_WITHIN struct core__option__Option__ref_u8 core__iter__closures__TakeWhileIterator__next__Iter_u8_7c5d0d01(uint8_t *l1);
+static RT_WITHIN struct core__option__Option__ref_u8 core__iter__closures__TakeWhileIterator__next__Iter_u8_bad0302d(uint8_t *l1);
+static RT_WITHIN struct core__option__Option__rt_tuple2_u8_u64 core__option__OptionFromResidualNoValue__from_residual_e4dc67fa(struct core__option__NoValue l1);
+static RT_WITHIN struct core__option__Option__rt_tuple2_uses_Scope_Option_u8 core__option__OptionFromResidualNoValue__from_residual_e7cc27ad(struct core__option__NoValue l1);
+static RT_WITHIN struct core__result__Result__u32_Refusal core__result__ResultFromResidualErrResidual__from_resi_07f82ab4(struct core__result__ErrResidual__NoProgram l1);
+static RT_WITHIN struct core__result__Result__u32_OperatorError core__result__ResultFromResidualErrResidual__from_resi_153600e2(struct core__result__ErrResidual__OperatorError l1);
+static RT_WITHIN struct core__result__Result__rt_tuple2_u64_u8_Refusal core__result__ResultFromResidualErrResidual__from_resi_199ff778(struct core__result__ErrResidual__Refusal l1);
+static RT_WITHIN struct core__result__Result__rt_tuple3_u64_u8_Judged_Refusal core__result__ResultFromResidualErrResidual__from_resi_29dc3d9d(struct core__result__ErrResidual__Refusal l1);
+static RT_WITHIN struct core__result__Result__u32_Refusal core__result__ResultFromResidualErrResidual__from_resi_29ec18ee(struct core__result__ErrResidual__Refusal l1);
+static RT_WITHIN struct core__result__Result__count_images_Counts_Refusal core__result__ResultFromResidualErrResidual__from_resi_31930649(struct core__result__ErrResidual__Refusal l1);
+static RT_WITHIN struct core__result__Result__Loaded_Refusal core__result__ResultFromResidualErrResidual__from_resi_3d5841e5(struct core__result__ErrResidual__Refusal l1);
+static RT_WITHIN struct core__result__Result__rt_tuple2_u8_u64_Refusal core__result__ResultFromResidualErrResidual__from_resi_79390567(struct core__result__ErrResidual__Refusal l1);
+static RT_WITHIN struct core__result__Result__Seat_Refusal core__result__ResultFromResidualErrResidual__from_resi_865746fe(struct core__result__ErrResidual__Refusal l1);
+static RT_WITHIN struct core__result__Result__rt_tuple2_u64_Done_Refusal core__result__ResultFromResidualErrResidual__from_resi_8768edf0(struct core__result__ErrResidual__Refusal l1);
+static RT_WITHIN struct core__result__Result__u64_OperatorError core__result__ResultFromResidualErrResidual__from_resi_8fddf8e3(struct core__result__ErrResidual__OperatorError l1);
+static RT_WITHIN struct core__result__Result__Opened_Refusal core__result__ResultFromResidualErrResidual__from_resi_94ec4b81(struct core__result__ErrResidual__Refusal l1);
+static RT_WITHIN struct core__result__Result__rt_tuple2_u64_Summary_Refusal core__result__ResultFromResidualErrResidual__from_resi_9aee97b7(struct core__result__ErrResidual__Refusal l1);
+static RT_WITHIN struct core__result__Result__run_images_Report_Refusal core__result__ResultFromResidualErrResidual__from_resi_abcbd695(struct core__result__ErrResidual__Refusal l1);
+static RT_WITHIN struct core__result__Result__rt_tuple2_u64_Totals_Refusal core__result__ResultFromResidualErrResidual__from_resi_e2c23d53(struct core__result__ErrResidual__Refusal l1);
+static RT_WITHIN struct core__result__Result__rt_tuple2_u64_Planned_Refusal core__result__ResultFromResidualErrResidual__from_resi_e75b3344(struct core__result__ErrResidual__Refusal l1);
+static RT_WITHIN struct core__result__Result__u64_Refusal core__result__ResultFromResidualErrResidual__from_resi_f9cf8d89(struct core__result__ErrResidual__Refusal l1);
+static RT_WITHIN struct core__result__Result__rt_tuple2_u64_Facts_Refusal core__result__ResultFromResidualErrResidual__from_resi_fbfd7bc2(struct core__result__ErrResidual__Refusal l1);
+static RT_WITHIN struct core__ops__ControlFlow__ErrResidual_Refusal_rt_tuple3__6dda1656 core__result__ResultTry__branch__rt_tuple3_u64_u8_Judg_d80f38d1(struct core__result__Result__rt_tuple3_u64_u8_Judged_Refusal l1);
 static RT_APART struct core__result__Result__count_images_Counts_Refusal count_images__answered(rt_slice l1, struct table_read__parameters__Parameters l2, rt_slice l3, struct count_images__Asking l4, rt_slice l5, rt_slice l6);
 static RT_APART struct core__result__Result__count_images_Counts_Refusal count_images__begun(uint8_t *l1, rt_slice l2, rt_slice l3, rt_slice l4, struct count_images__Question l5, rt_slice l6);
 static RT_APART struct count_images__Counts count_images__count(rt_slice l1, rt_slice l2, uint32_t l3, uint32_t l4, uint32_t l5, rt_slice l6);
@@ -1273,10 +1278,10 @@ static inline struct core__result__Result__unit_Refusal count_images__placed(rt_
 static inline void count_images__prepared(rt_slice l1, rt_slice l2, rt_slice l3, struct count_images__Asking l4, rt_slice l5, rt_slice l6);
 static RT_HERE struct count_images__Counts count_images__refused(uint8_t l1);
 static RT_HERE struct count_images__Counts count_images__settled(struct core__result__Result__count_images_Counts_Refusal l1);
-static RT_HERE struct rt_array_uint16_6 counting__copies__part__u16_6(rt_slice l1, uint64_t l2);
+static RT_WITHIN struct rt_array_uint16_6 counting__copies__part__u16_6(rt_slice l1, uint64_t l2);
 static RT_HERE struct rt_array_uint64_32 counting__copies__part__u64_32(rt_slice l1, uint64_t l2);
-static RT_HERE void counting__copies__write__u16(rt_slice l1, uint64_t l2, rt_slice l3);
-static RT_HERE void counting__copies__write__u64(rt_slice l1, uint64_t l2, rt_slice l3);
+static RT_WITHIN void counting__copies__write__u16(rt_slice l1, uint64_t l2, rt_slice l3);
+static RT_WITHIN void counting__copies__write__u64(rt_slice l1, uint64_t l2, rt_slice l3);
 static inline struct counting__count__Tally counting__count__add(struct counting__count__Tally l1, struct counting__count__Tally l2);
 static inline struct counting__count__Tally counting__count__all(struct engine__Machine l1, rt_slice l2, rt_slice l3, rt_slice l4, rt_slice l5, struct counting__count__Asked l6);
 static inline uint64_t counting__count__commands(rt_slice l1, uint64_t l2);
@@ -1400,10 +1405,10 @@ static inline uint8_t lexer__bytes__byte(rt_slice l1, uint64_t l2);
 static RT_HERE struct core__option__Option__u64 lexer__bytes__close_place(rt_slice l1);
 static RT_HERE struct core__option__Option__u64 lexer__bytes__closing(rt_slice l1);
 static inline uint64_t lexer__bytes__digits(rt_slice l1);
-static RT_HERE uint8_t lexer__bytes__fn__digits__take_while(uint8_t *l1, uint8_t *l2);
-static RT_HERE uint8_t lexer__bytes__fn__digits__take_while_FnMut__call_mut(uint8_t *l1, uint8_t *l2);
-static RT_HERE uint8_t lexer__bytes__fn__names__take_while(uint8_t *l1, uint8_t *l2);
-static RT_HERE uint8_t lexer__bytes__fn__names__take_while_FnMut__call_mut(uint8_t *l1, uint8_t *l2);
+static RT_WITHIN uint8_t lexer__bytes__fn__digits__take_while(uint8_t *l1, uint8_t *l2);
+static RT_WITHIN uint8_t lexer__bytes__fn__digits__take_while_FnMut__call_mut(uint8_t *l1, uint8_t *l2);
+static RT_WITHIN uint8_t lexer__bytes__fn__names__take_while(uint8_t *l1, uint8_t *l2);
+static RT_WITHIN uint8_t lexer__bytes__fn__names__take_while_FnMut__call_mut(uint8_t *l1, uint8_t *l2);
 static inline uint8_t lexer__bytes__is_blank(uint8_t l1);
 static inline uint8_t lexer__bytes__is_digit(uint8_t l1);
 static inline uint8_t lexer__bytes__is_letter(uint8_t l1);
@@ -1411,8 +1416,8 @@ static inline uint8_t lexer__bytes__is_name_byte(uint8_t l1);
 static inline uint64_t lexer__bytes__names(rt_slice l1);
 static inline uint8_t lexer__bytes__opens(uint8_t l1, uint8_t l2);
 static inline uint8_t lexer__bytes__signed(uint8_t l1, uint8_t l2);
-static RT_HERE struct rt_tuple2__u8_u64 lexer__fn__followed__map(struct lexer__fn__followed__map_Self l1, uint8_t l2);
-static RT_HERE struct rt_tuple2__u8_u64 lexer__fn__followed__map_FnOnce__call_once(struct lexer__fn__followed__map_Self l1, uint8_t l2);
+static RT_WITHIN struct rt_tuple2__u8_u64 lexer__fn__followed__map(struct lexer__fn__followed__map_Self l1, uint8_t l2);
+static RT_WITHIN struct rt_tuple2__u8_u64 lexer__fn__followed__map_FnOnce__call_once(struct lexer__fn__followed__map_Self l1, uint8_t l2);
 static RT_HERE struct core__option__Option__rt_tuple2_u8_u64 lexer__followed(uint8_t l1, uint8_t l2, uint8_t l3, struct core__option__Option__u8 l4);
 static inline uint64_t lexer__gaps__back_within(rt_slice l1, uint64_t l2, uint64_t l3);
 static inline uint64_t lexer__gaps__beyond(rt_slice l1, uint64_t l2);
@@ -1444,7 +1449,7 @@ static inline struct types__refusal__Refusal load__breach(uint8_t l1);
 static RT_HERE struct core__result__Result__Loaded_Refusal load__of_stream(rt_slice l1, rt_slice l2, rt_slice l3, rt_slice l4);
 static RT_HERE struct core__result__Result__Loaded_Refusal load__program(rt_slice l1, rt_slice l2, rt_slice l3, rt_slice l4, rt_slice l5);
 static RT_HERE struct load__Loaded load__summed(uint64_t l1, uint64_t l2, struct read_program__Summary l3);
-static RT_HERE struct operators__Operator operators__OperatorFromU8__from(uint8_t l1);
+static RT_WITHIN struct operators__Operator operators__OperatorFromU8__from(uint8_t l1);
 static inline struct core__result__Result__rt_tuple2_u64_Facts_Refusal read_exprs__expr__construct(rt_slice l1, uint8_t *l2, uint64_t l3, uint64_t l4, uint64_t l5);
 static inline struct core__result__Result__rt_tuple2_u64_Facts_Refusal read_exprs__expr__expr(rt_slice l1, uint8_t *l2, uint64_t l3, uint64_t l4, uint64_t l5);
 static RT_HERE struct core__result__Result__rt_tuple2_u64_Facts_Refusal read_exprs__leaf__bool_byte(rt_slice l1, uint64_t l2);
@@ -1499,10 +1504,10 @@ static inline struct core__result__Result__u32_Refusal read_text__imaged(rt_slic
 static RT_APART struct core__result__Result__u32_Refusal read_text__meant(rt_slice l1, rt_slice l2, rt_slice l3, rt_slice l4);
 static inline struct core__result__Result__u32_Refusal read_text__passes(rt_slice l1, rt_slice l2, rt_slice l3, rt_slice l4);
 static RT_APART struct read_text__Answer read_text__read(rt_slice l1, rt_slice l2);
-static RT_HERE uint8_t resolve__declarations__between_all__unit(rt_slice l1);
+static RT_WITHIN uint8_t resolve__declarations__between_all__unit(rt_slice l1);
 static inline uint8_t resolve__declarations__few(uint64_t l1, uint64_t l2);
-static RT_HERE uint8_t resolve__declarations__fn__rows_ok__between_all(uint8_t *l1, uint64_t l2, uint64_t l3);
-static RT_HERE uint8_t resolve__declarations__fn__rows_ok__between_all_Fn__call(uint8_t *l1, uint64_t l2, uint64_t l3);
+static RT_WITHIN uint8_t resolve__declarations__fn__rows_ok__between_all(uint8_t *l1, uint64_t l2, uint64_t l3);
+static RT_WITHIN uint8_t resolve__declarations__fn__rows_ok__between_all_Fn__call(uint8_t *l1, uint64_t l2, uint64_t l3);
 static inline uint8_t resolve__declarations__is_new(rt_slice l1, rt_slice l2, uint64_t l3, uint64_t l4);
 static inline uint8_t resolve__declarations__narrow(rt_slice l1);
 static inline uint8_t resolve__declarations__row_ok(rt_slice l1, rt_slice l2, uint64_t l3, uint64_t l4);
@@ -1517,17 +1522,17 @@ static inline uint64_t resolve__literals__longer(uint64_t l1, uint8_t l2);
 static inline struct core__option__Option__u32 resolve__literals__nat_word(rt_slice l1, uint64_t l2);
 static inline struct core__option__Option__u32 resolve__literals__signed(uint8_t l1, uint64_t l2);
 static inline uint64_t resolve__literals__value(rt_slice l1, uint64_t l2);
-static RT_HERE uint8_t resolve__names__fn__lookup__position(uint8_t *l1, uint8_t *l2);
-static RT_HERE uint8_t resolve__names__fn__lookup__position_FnMut__call_mut(uint8_t *l1, uint8_t *l2);
+static RT_WITHIN uint8_t resolve__names__fn__lookup__position(uint8_t *l1, uint8_t *l2);
+static RT_WITHIN uint8_t resolve__names__fn__lookup__position_FnMut__call_mut(uint8_t *l1, uint8_t *l2);
 static inline uint8_t resolve__names__letter(rt_slice l1, uint64_t l2);
 static RT_HERE struct core__option__Option__u64 resolve__names__lookup(rt_slice l1, rt_slice l2, uint64_t l3);
 static inline uint8_t resolve__names__same_name(rt_slice l1, uint64_t l2, uint64_t l3);
-static RT_HERE uint8_t resolve__resolve__declarations__few_Fn__call(uint8_t *l1, uint64_t l2, uint64_t l3);
+static RT_WITHIN uint8_t resolve__resolve__declarations__few_Fn__call(uint8_t *l1, uint64_t l2, uint64_t l3);
 static inline uint64_t resolve__tables__add(rt_slice l1, uint64_t l2, uint64_t l3, uint8_t l4);
 static inline uint64_t resolve__tables__counted(uint64_t l1, uint8_t l2);
 static inline uint8_t resolve__tables__distinct(rt_slice l1, rt_slice l2);
 static inline void resolve__tables__put(rt_slice l1, uint64_t l2, uint64_t l3);
-static RT_HERE uint8_t resolve__declarations__between_all__between_all_Self_s_50cd00d0(rt_slice l1, struct resolve__declarations__fn__rows_ok__between_all_Self___17487529 l2);
+static RT_WITHIN uint8_t resolve__declarations__between_all__between_all_Self_s_50cd00d0(rt_slice l1, struct resolve__declarations__fn__rows_ok__between_all_Self___17487529 l2);
 static RT_APART struct core__result__Result__run_images_Report_Refusal run_images__begun(uint8_t *l1, rt_slice l2, rt_slice l3, rt_slice l4, rt_slice l5, rt_slice l6, rt_slice l7);
 static RT_HERE struct run_images__Report run_images__refused(uint8_t l1);
 static RT_HERE struct run_images__Report run_images__reported(rt_slice l1, rt_slice l2, rt_slice l3, struct interpreter__turns__Ran l4, uint8_t l5, rt_slice l6, rt_slice l7);
@@ -1545,11 +1550,11 @@ static RT_APART struct core__result__Result__Loaded_Refusal seating__admit(rt_sl
 static RT_HERE struct core__result__Result__Opened_Refusal seating__open_program(rt_slice l1, rt_slice l2, rt_slice l3);
 static RT_HERE struct table_read__parameters__Parameters seating__parameters(uint8_t *l1);
 static RT_HERE struct core__result__Result__Seat_Refusal seating__seat_table(uint64_t l1, struct table_read__parameters__Parameters l2, rt_slice l3, rt_slice l4, rt_slice l5, rt_slice l6);
-static RT_HERE void std__slices__slice_T__copy_within__u64_Range_u64(rt_slice l1, struct core__iter__ranges__Range__u64 l2, uint64_t l3);
-static RT_HERE struct rt_tuple2__u64_u64 std_alloc__part__AnySliceRange__within__Range_u64(struct core__iter__ranges__Range__u64 l1, uint64_t l2);
-static RT_HERE void std_alloc__shifts__copy_down__u64(rt_slice l1, uint64_t l2, uint64_t l3, uint64_t l4);
-static RT_HERE void std_alloc__shifts__copy_up__u64(rt_slice l1, uint64_t l2, uint64_t l3, uint64_t l4);
-static RT_HERE void std_alloc__shifts__shift__u64(rt_slice l1, uint64_t l2, uint64_t l3, uint64_t l4);
+static RT_WITHIN void std__slices__slice_T__copy_within__u64_Range_u64(rt_slice l1, struct core__iter__ranges__Range__u64 l2, uint64_t l3);
+static RT_WITHIN struct rt_tuple2__u64_u64 std_alloc__part__AnySliceRange__within__Range_u64(struct core__iter__ranges__Range__u64 l1, uint64_t l2);
+static RT_WITHIN void std_alloc__shifts__copy_down__u64(rt_slice l1, uint64_t l2, uint64_t l3, uint64_t l4);
+static RT_WITHIN void std_alloc__shifts__copy_up__u64(rt_slice l1, uint64_t l2, uint64_t l3, uint64_t l4);
+static RT_WITHIN void std_alloc__shifts__shift__u64(rt_slice l1, uint64_t l2, uint64_t l3, uint64_t l4);
 static inline uint64_t step_lines__program(rt_slice l1, uint64_t l2, rt_slice l3, rt_slice l4, uint64_t l5);
 static inline uint64_t step_lines__step(rt_slice l1, struct directory__Row l2, rt_slice l3, uint64_t l4);
 static RT_APART struct step_part__Spot step_part__locate(rt_slice l1, uint8_t l2, uint8_t l3);
@@ -1629,9 +1634,9 @@ static inline uint64_t trace_lines__writes__written(rt_slice l1, uint64_t l2, st
 static inline uint32_t types__default_word(uint8_t l1);
 static inline uint8_t types__is_reference(uint8_t l1);
 static inline uint8_t types__is_type(uint8_t l1, uint8_t l2);
-static RT_HERE uint8_t types__refusal__U8FromRefusal__from(struct types__refusal__Refusal l1);
+static RT_WITHIN uint8_t types__refusal__U8FromRefusal__from(struct types__refusal__Refusal l1);
 static inline uint8_t types__struct_of(uint8_t l1);
-static RT_HERE struct types__refusal__Refusal uses__RefusalFromNoProgram__from(struct uses__NoProgram l1);
+static RT_WITHIN struct types__refusal__Refusal uses__RefusalFromNoProgram__from(struct uses__NoProgram l1);
 static RT_HERE struct core__option__Option__rt_tuple2_uses_Scope_Option_u8 uses__book__Book__begin(struct uses__book__Book l1, struct uses__Scope l2);
 static RT_HERE struct core__option__Option__rt_tuple2_u8_u64 uses__book__Book__called(struct uses__book__Book l1, uint64_t l2, uint8_t l3, uint64_t l4);
 static RT_HERE struct core__option__Option__rt_tuple2_uses_Scope_Option_u8 uses__book__Book__declare(struct uses__book__Book l1, rt_slice l2, uint64_t l3, struct uses__Scope l4);
@@ -1679,47 +1684,31 @@ static inline struct core__result__Result__u32_OperatorError arithmetic__apply_b
     struct core__result__Result__u32_OperatorError l0;
     struct core__option__Option__bool l4;
     struct core__option__Option__bool l5;
-    uint8_t l6;
-    uint8_t l7;
     uint8_t l8;
-    uint8_t l9;
-    uint8_t l10;
     uint8_t l11;
-    uint8_t l12;
-    uint8_t l13;
     uint8_t l14;
-    uint8_t l15;
-    uint8_t l16;
     uint8_t l17;
     switch (l1.tag) {
         case UINT8_C(0): {
-            l6 = l2;
-            l7 = l3;
-            l8 = (uint8_t)(l6 == l7);
+            l8 = (uint8_t)(l2 == l3);
             l5.tag = UINT8_C(1);
             l5.s0 = l8;
             break;
         }
         case UINT8_C(1): {
-            l9 = l2;
-            l10 = l3;
-            l11 = (uint8_t)(l9 != l10);
+            l11 = (uint8_t)(l2 != l3);
             l5.tag = UINT8_C(1);
             l5.s0 = l11;
             break;
         }
         case UINT8_C(11): {
-            l12 = l2;
-            l13 = l3;
-            l14 = (uint8_t)((uint32_t)l12 & (uint32_t)l13);
+            l14 = (uint8_t)((uint32_t)l2 & (uint32_t)l3);
             l5.tag = UINT8_C(1);
             l5.s0 = l14;
             break;
         }
         case UINT8_C(12): {
-            l15 = l2;
-            l16 = l3;
-            l17 = (uint8_t)((uint32_t)l15 | (uint32_t)l16);
+            l17 = (uint8_t)((uint32_t)l2 | (uint32_t)l3);
             l5.tag = UINT8_C(1);
             l5.s0 = l17;
             break;
@@ -1740,160 +1729,91 @@ static inline struct core__result__Result__u32_OperatorError arithmetic__apply_i
     uint64_t l4;
     uint64_t l5;
     uint8_t l6;
-    uint64_t l7;
-    struct core__result__ErrResidual__OperatorError l8;
-    uint64_t l9;
-    struct core__result__ErrResidual__OperatorError l10;
-    uint32_t l11;
-    uint32_t l12;
     uint8_t l13;
-    uint64_t l14;
-    uint64_t l15;
-    uint64_t l16;
-    uint64_t l17;
-    uint64_t l18;
-    uint64_t l19;
-    uint64_t l20;
-    uint64_t l21;
-    uint64_t l22;
-    uint64_t l23;
-    uint64_t l24;
-    uint64_t l25;
-    uint64_t l26;
-    uint64_t l27;
     uint64_t l28;
-    uint64_t l29;
     struct core__ops__ControlFlow__ErrResidual_OperatorError_u64 l30;
     struct core__result__Result__u64_OperatorError l31;
-    uint64_t l32;
-    uint64_t l33;
-    uint64_t l34;
-    struct core__result__ErrResidual__OperatorError l35;
-    uint64_t l36;
     struct core__ops__ControlFlow__ErrResidual_OperatorError_u64 l37;
     struct core__result__Result__u64_OperatorError l38;
-    uint64_t l39;
-    uint64_t l40;
-    uint64_t l41;
-    struct core__result__ErrResidual__OperatorError l42;
-    uint64_t l43;
-    uint64_t l44;
     uint64_t l45;
-    uint64_t l46;
-    uint64_t l47;
     uint64_t l48;
     struct operators__OperatorError l49;
     uint32_t l50;
-    uint8_t l51;
-    l11 = l2;
-    l4 = arithmetic__int_of(l11);
-    l12 = l3;
-    l5 = arithmetic__int_of(l12);
+    l4 = arithmetic__int_of(l2);
+    l5 = arithmetic__int_of(l3);
     switch (l1.tag) {
         case UINT8_C(0): {
-            l14 = l4;
-            l15 = l5;
-            l13 = (uint8_t)(l14 == l15);
+            l13 = (uint8_t)(l4 == l5);
             break;
         }
         case UINT8_C(1): {
-            l16 = l4;
-            l17 = l5;
-            l13 = (uint8_t)(l16 != l17);
+            l13 = (uint8_t)(l4 != l5);
             break;
         }
         case UINT8_C(2): {
-            l18 = l4;
-            l19 = l5;
-            l13 = (uint8_t)((uint64_t)(l18 ^ UINT64_C(9223372036854775808)) <= (uint64_t)(l19 ^ UINT64_C(9223372036854775808)));
+            l13 = (uint8_t)((uint64_t)(l4 ^ UINT64_C(9223372036854775808)) <= (uint64_t)(l5 ^ UINT64_C(9223372036854775808)));
             break;
         }
         case UINT8_C(3): {
-            l20 = l4;
-            l21 = l5;
-            l13 = (uint8_t)((uint64_t)(l21 ^ UINT64_C(9223372036854775808)) <= (uint64_t)(l20 ^ UINT64_C(9223372036854775808)));
+            l13 = (uint8_t)((uint64_t)(l5 ^ UINT64_C(9223372036854775808)) <= (uint64_t)(l4 ^ UINT64_C(9223372036854775808)));
             break;
         }
         case UINT8_C(4): {
-            l22 = l4;
-            l23 = l5;
-            l13 = (uint8_t)((uint64_t)(l22 ^ UINT64_C(9223372036854775808)) < (uint64_t)(l23 ^ UINT64_C(9223372036854775808)));
+            l13 = (uint8_t)((uint64_t)(l4 ^ UINT64_C(9223372036854775808)) < (uint64_t)(l5 ^ UINT64_C(9223372036854775808)));
             break;
         }
         case UINT8_C(5): {
-            l24 = l4;
-            l25 = l5;
-            l13 = (uint8_t)((uint64_t)(l25 ^ UINT64_C(9223372036854775808)) < (uint64_t)(l24 ^ UINT64_C(9223372036854775808)));
+            l13 = (uint8_t)((uint64_t)(l5 ^ UINT64_C(9223372036854775808)) < (uint64_t)(l4 ^ UINT64_C(9223372036854775808)));
             break;
         }
         case UINT8_C(6): {
-            l26 = l4;
-            l27 = l5;
-            l28 = (uint64_t)((uint64_t)l26 * (uint64_t)l27);
+            l28 = (uint64_t)((uint64_t)l4 * (uint64_t)l5);
             l0 = arithmetic__int_answer(l28);
             return l0;
             break;
         }
         case UINT8_C(7): {
-            l32 = l4;
-            l33 = l5;
-            l31 = arithmetic__quotient_of(l32, l33);
+            l31 = arithmetic__quotient_of(l4, l5);
             l30 = core__result__ResultTry__branch__u64_OperatorError(l31);
             switch (l30.tag) {
                 case UINT8_C(0): {
-                    l7 = l30.s0;
-                    l34 = l7;
                     break;
                 }
                 case UINT8_C(1): default: {
-                    l8.f0 = l30.s1.f0;
-                    l35.f0 = l8.f0;
-                    l0 = core__result__ResultFromResidualErrResidual__from_resi_153600e2(l35);
+                    l0 = core__result__ResultFromResidualErrResidual__from_resi_153600e2(l30.s1);
                     return l0;
                     break;
                 }
             }
-            l29 = l34;
-            l0 = arithmetic__int_answer(l29);
+            l0 = arithmetic__int_answer(l30.s0);
             return l0;
             break;
         }
         case UINT8_C(8): {
-            l39 = l4;
-            l40 = l5;
-            l38 = arithmetic__remainder_of(l39, l40);
+            l38 = arithmetic__remainder_of(l4, l5);
             l37 = core__result__ResultTry__branch__u64_OperatorError(l38);
             switch (l37.tag) {
                 case UINT8_C(0): {
-                    l9 = l37.s0;
-                    l41 = l9;
                     break;
                 }
                 case UINT8_C(1): default: {
-                    l10.f0 = l37.s1.f0;
-                    l42.f0 = l10.f0;
-                    l0 = core__result__ResultFromResidualErrResidual__from_resi_153600e2(l42);
+                    l0 = core__result__ResultFromResidualErrResidual__from_resi_153600e2(l37.s1);
                     return l0;
                     break;
                 }
             }
-            l36 = l41;
-            l0 = arithmetic__int_answer(l36);
+            l0 = arithmetic__int_answer(l37.s0);
             return l0;
             break;
         }
         case UINT8_C(9): {
-            l43 = l4;
-            l44 = l5;
-            l45 = (uint64_t)((uint64_t)l43 + (uint64_t)l44);
+            l45 = (uint64_t)((uint64_t)l4 + (uint64_t)l5);
             l0 = arithmetic__int_answer(l45);
             return l0;
             break;
         }
         case UINT8_C(10): {
-            l46 = l4;
-            l47 = l5;
-            l48 = (uint64_t)((uint64_t)l46 - (uint64_t)l47);
+            l48 = (uint64_t)((uint64_t)l4 - (uint64_t)l5);
             l0 = arithmetic__int_answer(l48);
             return l0;
             break;
@@ -1907,8 +1827,7 @@ static inline struct core__result__Result__u32_OperatorError arithmetic__apply_i
         }
     }
     l6 = l13;
-    l51 = l6;
-    l50 = core__convert__others__U32FromBool__from(l51);
+    l50 = core__convert__others__U32FromBool__from(l6);
     l0.tag = UINT8_C(0);
     l0.s0 = l50;
     return l0;
@@ -1919,25 +1838,17 @@ static inline struct core__result__Result__u32_OperatorError arithmetic__apply_l
     struct core__result__Result__u32_OperatorError l0;
     struct core__option__Option__bool l4;
     struct core__option__Option__bool l5;
-    uint32_t l6;
-    uint32_t l7;
     uint8_t l8;
-    uint32_t l9;
-    uint32_t l10;
     uint8_t l11;
     switch (l1.tag) {
         case UINT8_C(0): {
-            l6 = l2;
-            l7 = l3;
-            l8 = (uint8_t)(l6 == l7);
+            l8 = (uint8_t)(l2 == l3);
             l5.tag = UINT8_C(1);
             l5.s0 = l8;
             break;
         }
         case UINT8_C(1): {
-            l9 = l2;
-            l10 = l3;
-            l11 = (uint8_t)(l9 != l10);
+            l11 = (uint8_t)(l2 != l3);
             l5.tag = UINT8_C(1);
             l5.s0 = l11;
             break;
@@ -2079,14 +1990,12 @@ static inline struct core__result__Result__u32_OperatorError arithmetic__apply_w
 static inline struct core__result__Result__u32_OperatorError arithmetic__int_answer(uint64_t l1)
 {
     struct core__result__Result__u32_OperatorError l0;
-    uint32_t l2;
     struct core__result__Result__u32_TryFromIntError l3;
     struct operators__OperatorError l4;
     uint32_t l5;
     l3 = core__convert__try_from__AnyTryFrom__try_from__u64_u32(l1);
     switch (l3.tag) {
         case UINT8_C(0): {
-            l2 = l3.s0;
             break;
         }
         case UINT8_C(1): default: {
@@ -2097,7 +2006,7 @@ static inline struct core__result__Result__u32_OperatorError arithmetic__int_ans
             break;
         }
     }
-    l5 = core__int__i32__cast_unsigned(l2);
+    l5 = core__int__i32__cast_unsigned(l3.s0);
     l0.tag = UINT8_C(0);
     l0.s0 = l5;
     return l0;
@@ -2146,42 +2055,24 @@ static RT_HERE struct core__result__Result__u64_OperatorError arithmetic__quotie
 static RT_HERE struct core__result__Result__u64_OperatorError arithmetic__remainder_of(uint64_t l1, uint64_t l2)
 {
     struct core__result__Result__u64_OperatorError l0;
-    uint64_t l3;
-    struct core__result__ErrResidual__OperatorError l4;
-    uint64_t l5;
-    uint64_t l6;
-    uint64_t l7;
     struct core__ops__ControlFlow__ErrResidual_OperatorError_u64 l8;
     struct core__result__Result__u64_OperatorError l9;
-    uint64_t l10;
-    uint64_t l11;
-    uint64_t l12;
-    struct core__result__ErrResidual__OperatorError l13;
     uint64_t l14;
     uint64_t l15;
-    l5 = l1;
-    l6 = l2;
-    l10 = l1;
-    l11 = l2;
-    l9 = arithmetic__quotient_of(l10, l11);
+    l9 = arithmetic__quotient_of(l1, l2);
     l8 = core__result__ResultTry__branch__u64_OperatorError(l9);
     switch (l8.tag) {
         case UINT8_C(0): {
-            l3 = l8.s0;
-            l12 = l3;
             break;
         }
         case UINT8_C(1): default: {
-            l4.f0 = l8.s1.f0;
-            l13.f0 = l4.f0;
-            l0 = core__result__ResultFromResidualErrResidual__from_resi_8fddf8e3(l13);
+            l0 = core__result__ResultFromResidualErrResidual__from_resi_8fddf8e3(l8.s1);
             return l0;
             break;
         }
     }
-    l7 = l12;
-    l14 = (uint64_t)((uint64_t)l6 * (uint64_t)l7);
-    l15 = (uint64_t)((uint64_t)l5 - (uint64_t)l14);
+    l14 = (uint64_t)((uint64_t)l2 * (uint64_t)l8.s0);
+    l15 = (uint64_t)((uint64_t)l1 - (uint64_t)l14);
     l0.tag = UINT8_C(0);
     l0.s0 = l15;
     return l0;
@@ -2190,14 +2081,12 @@ static RT_HERE struct core__result__Result__u64_OperatorError arithmetic__remain
 static inline struct core__result__Result__u32_OperatorError arithmetic__truth(struct core__option__Option__bool l1)
 {
     struct core__result__Result__u32_OperatorError l0;
-    uint8_t l2;
     struct core__result__Result__u32_OperatorError l3;
     uint32_t l4;
     struct operators__OperatorError l5;
     switch (l1.tag) {
         case UINT8_C(1): {
-            l2 = l1.s0;
-            l4 = core__convert__others__U32FromBool__from(l2);
+            l4 = core__convert__others__U32FromBool__from(l1.s0);
             l3.tag = UINT8_C(0);
             l3.s0 = l4;
             break;
@@ -2213,7 +2102,7 @@ static inline struct core__result__Result__u32_OperatorError arithmetic__truth(s
     return l0;
 }
 
-static RT_HERE struct audala__Answer audala__AnswerFromVerdict__from(struct checker__Verdict l1)
+static RT_WITHIN struct audala__Answer audala__AnswerFromVerdict__from(struct checker__Verdict l1)
 {
     struct audala__Answer l0;
     uint32_t l2;
@@ -2234,7 +2123,7 @@ static RT_HERE struct audala__Answer audala__AnswerFromVerdict__from(struct chec
     return l0;
 }
 
-static RT_HERE struct audala__Report audala__ReportFromRun_imagesReport__from(struct run_images__Report l1)
+static RT_WITHIN struct audala__Report audala__ReportFromRun_imagesReport__from(struct run_images__Report l1)
 {
     struct audala__Report l0;
     uint32_t l2;
@@ -2263,7 +2152,14 @@ static RT_HERE struct audala__Answer audala__audala_check(rt_slice l1, rt_slice 
     l5.p = l4;
     l5.n = l2.n;
     l3 = checker__check(l1, l5);
-    l0 = audala__AnswerFromVerdict__from(l3);
+    {
+        struct audala__Answer r = audala__AnswerFromVerdict__from(l3);
+        l0.f0 = r.f0;
+        l0.f1 = r.f1;
+        l0.f2 = r.f2;
+        l0.f3 = r.f3;
+        l0.f4 = r.f4;
+    }
     return l0;
 }
 
@@ -2282,7 +2178,14 @@ static RT_HERE struct audala__Report audala__audala_run(rt_slice l1, rt_slice l2
     l10.p = l9;
     l10.n = l5.n;
     l6 = run_images__run(l1, l2, l3, l8, l10);
-    l0 = audala__ReportFromRun_imagesReport__from(l6);
+    {
+        struct audala__Report r = audala__ReportFromRun_imagesReport__from(l6);
+        l0.f0 = r.f0;
+        l0.f1 = r.f1;
+        l0.f2 = r.f2;
+        l0.f3 = r.f3;
+        l0.f4 = r.f4;
+    }
     return l0;
 }
 
@@ -2311,7 +2214,7 @@ static RT_HERE struct audala__images__Copied audala__images__Copied__done(uint64
     return l0;
 }
 
-static RT_HERE struct audala__images__Copied audala__images__CopiedFromRefusal__from(struct types__refusal__Refusal l1)
+static RT_WITHIN struct audala__images__Copied audala__images__CopiedFromRefusal__from(struct types__refusal__Refusal l1)
 {
     struct audala__images__Copied l0;
     uint32_t l2;
@@ -2323,25 +2226,21 @@ static RT_HERE struct audala__images__Copied audala__images__CopiedFromRefusal__
     return l0;
 }
 
-static RT_HERE struct audala__images__Copied audala__images__CopiedFromResultUsizeReadError__from(struct core__result__Result__u64_ReadError l1)
+static RT_WITHIN struct audala__images__Copied audala__images__CopiedFromResultUsizeReadError__from(struct core__result__Result__u64_ReadError l1)
 {
     struct audala__images__Copied l0;
-    uint64_t l2;
-    struct block__Fault l3;
     struct audala__images__Copied l4;
     struct types__refusal__Refusal l5;
     struct types__refusal__Refusal l6;
     switch (l1.tag) {
         case UINT8_C(0): {
-            l2 = l1.s0;
-            l4 = audala__images__Copied__done(l2);
+            l4 = audala__images__Copied__done(l1.s0);
             break;
         }
         case UINT8_C(1): default: {
             switch (l1.s1.tag) {
                 case UINT8_C(0): {
-                    l3 = l1.s1.s0;
-                    l5 = blocks__program_number(l3);
+                    l5 = blocks__program_number(l1.s1.s0);
                     l4 = audala__images__CopiedFromRefusal__from(l5);
                     break;
                 }
@@ -2359,17 +2258,15 @@ static RT_HERE struct audala__images__Copied audala__images__CopiedFromResultUsi
     return l0;
 }
 
-static RT_HERE struct audala__images__Copied audala__images__CopiedFromResultUsizeWriteError__from(struct core__result__Result__u64_WriteError l1)
+static RT_WITHIN struct audala__images__Copied audala__images__CopiedFromResultUsizeWriteError__from(struct core__result__Result__u64_WriteError l1)
 {
     struct audala__images__Copied l0;
-    uint64_t l2;
     struct audala__images__Copied l3;
     struct types__refusal__Refusal l4;
     struct types__refusal__Refusal l5;
     switch (l1.tag) {
         case UINT8_C(0): {
-            l2 = l1.s0;
-            l3 = audala__images__Copied__done(l2);
+            l3 = audala__images__Copied__done(l1.s0);
             break;
         }
         case UINT8_C(1): default: {
@@ -2453,7 +2350,7 @@ static inline struct audala__places__Stopped audala__places__audala_place(rt_sli
     return l0;
 }
 
-static RT_HERE struct audala__tallies__Counts audala__tallies__CountsFromCount_imagesCounts__from(struct count_images__Counts l1)
+static RT_WITHIN struct audala__tallies__Counts audala__tallies__CountsFromCount_imagesCounts__from(struct count_images__Counts l1)
 {
     struct audala__tallies__Counts l0;
     uint32_t l2;
@@ -2479,7 +2376,7 @@ static RT_HERE struct audala__tallies__Counts audala__tallies__audala_count(rt_s
     return l0;
 }
 
-static RT_HERE struct audala__images__Copied audala__texts__CopiedFromRead_textAnswer__from(struct read_text__Answer l1)
+static RT_WITHIN struct audala__images__Copied audala__texts__CopiedFromRead_textAnswer__from(struct read_text__Answer l1)
 {
     struct audala__images__Copied l0;
     uint64_t l2;
@@ -2503,16 +2400,14 @@ static RT_HERE struct audala__images__Copied audala__texts__audala_text(rt_slice
     return l0;
 }
 
-static RT_HERE struct audala__traces__Traced audala__traces__TracedFromTrace_imagesTraced__from(struct trace_images__Traced l1)
+static RT_WITHIN struct audala__traces__Traced audala__traces__TracedFromTrace_imagesTraced__from(struct trace_images__Traced l1)
 {
     struct audala__traces__Traced l0;
     uint32_t l2;
-    uint64_t l3;
     l2 = core__convert__U32FromU8__from(l1.f0);
-    l3 = l1.f2;
     l0.f0 = l2;
     l0.f1 = l1.f1;
-    l0.f2 = l3;
+    l0.f2 = l1.f2;
     l0.f3 = l1.f3;
     return l0;
 }
@@ -2521,15 +2416,19 @@ static RT_HERE struct audala__traces__Traced audala__traces__audala_trace(rt_sli
 {
     struct audala__traces__Traced l0;
     struct trace_images__Traced l6;
-    uint64_t l7;
     uint8_t *l8;
     rt_slice l9;
-    l7 = l4;
     l8 = (uint8_t *)&(*(uint8_t *)l5.p);
     l9.p = l8;
     l9.n = l5.n;
-    l6 = trace_images__trace(l1, l2, l3, l7, l9);
-    l0 = audala__traces__TracedFromTrace_imagesTraced__from(l6);
+    l6 = trace_images__trace(l1, l2, l3, l4, l9);
+    {
+        struct audala__traces__Traced r = audala__traces__TracedFromTrace_imagesTraced__from(l6);
+        l0.f0 = r.f0;
+        l0.f1 = r.f1;
+        l0.f2 = r.f2;
+        l0.f3 = r.f3;
+    }
     return l0;
 }
 
@@ -2585,7 +2484,7 @@ static inline uint8_t block__filled(rt_slice l1, uint8_t l2)
     return l0;
 }
 
-static RT_HERE uint8_t block__fn__zeros__all(uint8_t *l1, uint8_t *l2)
+static RT_WITHIN uint8_t block__fn__zeros__all(uint8_t *l1, uint8_t *l2)
 {
     uint8_t l0;
     uint8_t l3;
@@ -2595,7 +2494,7 @@ static RT_HERE uint8_t block__fn__zeros__all(uint8_t *l1, uint8_t *l2)
     return l0;
 }
 
-static RT_HERE uint8_t block__fn__zeros__all_FnMut__call_mut(uint8_t *l1, uint8_t *l2)
+static RT_WITHIN uint8_t block__fn__zeros__all_FnMut__call_mut(uint8_t *l1, uint8_t *l2)
 {
     uint8_t l0;
     uint8_t *l3;
@@ -2636,14 +2535,12 @@ static RT_HERE rt_slice block__payload(rt_slice l1, uint64_t l2)
 
 static inline void block__put__copy(rt_slice l1, uint64_t l2, rt_slice l3)
 {
-    uint64_t l5;
     uint64_t l6;
     uint8_t *l7;
     uint64_t l8;
     uint8_t *l9;
     rt_slice l10;
-    l5 = l3.n;
-    l6 = (uint64_t)((uint64_t)l2 + (uint64_t)l5);
+    l6 = (uint64_t)((uint64_t)l2 + (uint64_t)l3.n);
     l7 = l1.p + (size_t)l2;
     l8 = (uint64_t)((uint64_t)l6 - (uint64_t)l2);
     l9 = (uint8_t *)&(*(uint8_t *)l7);
@@ -2675,12 +2572,10 @@ static inline struct block__Both block__sums(rt_slice l1)
     struct block__Both l0;
     uint16_t l2;
     uint16_t l3;
-    rt_slice l4;
     uint64_t l5;
     uint8_t *l6;
     rt_slice l7;
     uint8_t *l8;
-    uint64_t l9;
     uint8_t l10;
     uint8_t *l11;
     uint16_t l12;
@@ -2690,16 +2585,14 @@ static inline struct block__Both block__sums(rt_slice l1)
     l8 = (uint8_t *)&(*(uint8_t *)l1.p);
     l7.p = l8;
     l7.n = UINT64_C(508);
-    l4 = l7;
     l5 = UINT64_C(0);
-    l9 = l4.n;
     for (;;) {
-        l10 = (uint8_t)(l5 < l9);
+        l10 = (uint8_t)(l5 < l7.n);
         if (l10) {
         } else {
             goto end1;
         }
-        l11 = l4.p + (size_t)l5;
+        l11 = l7.p + (size_t)l5;
         l6 = (uint8_t *)&(*(uint8_t *)l11);
         l13 = (*(uint8_t *)l6);
         l12 = core__convert__U16FromU8__from(l13);
@@ -2738,11 +2631,9 @@ static inline uint8_t block__sums_right(rt_slice l1)
 static inline uint8_t block__used_right(uint8_t l1, uint64_t l2)
 {
     uint8_t l0;
-    uint8_t l3;
     uint8_t l4;
     uint8_t l5;
-    l3 = l1;
-    if (l3) {
+    if (l1) {
         l5 = (uint8_t)(UINT64_C(1) <= l2);
         if (l5) {
             l5 = (uint8_t)(l2 <= UINT64_C(504));
@@ -2797,7 +2688,6 @@ static inline void block__writing__put_block(rt_slice l1, uint64_t l2, uint64_t 
 
 static inline void block__writing__put_front(rt_slice l1, uint64_t l2, uint64_t l3, rt_slice l4)
 {
-    uint64_t l5;
     uint8_t *l7;
     rt_slice l8;
     uint8_t *l9;
@@ -2809,7 +2699,6 @@ static inline void block__writing__put_front(rt_slice l1, uint64_t l2, uint64_t 
     rt_slice l15;
     uint64_t l16;
     uint64_t l17;
-    l5 = l4.n;
     l7 = (uint8_t *)&(*(uint8_t *)l1.p);
     l8.p = l7;
     l8.n = l1.n;
@@ -2818,7 +2707,7 @@ static inline void block__writing__put_front(rt_slice l1, uint64_t l2, uint64_t 
     l10.p = l9;
     l10.n = l1.n;
     l11 = (uint64_t)((uint64_t)l2 + (uint64_t)UINT64_C(2));
-    little_endian__put_pair(l10, l11, l5);
+    little_endian__put_pair(l10, l11, l4.n);
     l12 = (uint8_t *)&(*(uint8_t *)l1.p);
     l13.p = l12;
     l13.n = l1.n;
@@ -2828,8 +2717,8 @@ static inline void block__writing__put_front(rt_slice l1, uint64_t l2, uint64_t 
     l15.p = l14;
     l15.n = l1.n;
     l11 = (uint64_t)((uint64_t)l2 + (uint64_t)UINT64_C(4));
-    l16 = (uint64_t)((uint64_t)l11 + (uint64_t)l5);
-    l17 = (uint64_t)((uint64_t)UINT64_C(504) - (uint64_t)l5);
+    l16 = (uint64_t)((uint64_t)l11 + (uint64_t)l4.n);
+    l17 = (uint64_t)((uint64_t)UINT64_C(504) - (uint64_t)l4.n);
     block__put__zeros(l15, l16, l17);
     return;
 }
@@ -2875,8 +2764,6 @@ static inline struct core__option__Option__Fault blocks__image_fault(rt_slice l1
 static RT_HERE struct core__result__Result__u64_Fault blocks__open_image(rt_slice l1, uint64_t l2, rt_slice l3)
 {
     struct core__result__Result__u64_Fault l0;
-    uint64_t l4;
-    struct block__Fault l5;
     struct core__result__Result__u64_ReadError l6;
     uint8_t *l7;
     rt_slice l8;
@@ -2888,17 +2775,15 @@ static RT_HERE struct core__result__Result__u64_Fault blocks__open_image(rt_slic
     l6 = blocks__read_image(l1, l2, l8);
     switch (l6.tag) {
         case UINT8_C(0): {
-            l4 = l6.s0;
             l9.tag = UINT8_C(0);
-            l9.s0 = l4;
+            l9.s0 = l6.s0;
             break;
         }
         case UINT8_C(1): default: {
             switch (l6.s1.tag) {
                 case UINT8_C(0): {
-                    l5 = l6.s1.s0;
                     l9.tag = UINT8_C(1);
-                    l9.s1 = l5;
+                    l9.s1 = l6.s1.s0;
                     break;
                 }
                 case UINT8_C(1): default: {
@@ -2940,7 +2825,6 @@ static inline struct types__refusal__Refusal blocks__program_number(struct block
 static RT_HERE struct core__result__Result__u64_ReadError blocks__read_image(rt_slice l1, uint64_t l2, rt_slice l3)
 {
     struct core__result__Result__u64_ReadError l0;
-    struct block__Fault l4;
     uint64_t l5;
     uint64_t l6;
     struct core__option__Option__Fault l7;
@@ -2953,9 +2837,8 @@ static RT_HERE struct core__result__Result__u64_ReadError blocks__read_image(rt_
     l7 = blocks__image_fault(l1, l2);
     switch (l7.tag) {
         case UINT8_C(1): {
-            l4 = l7.s0;
             l8.tag = UINT8_C(0);
-            l8.s0 = l4;
+            l8.s0 = l7.s0;
             l0.tag = UINT8_C(1);
             l0.s1 = l8;
             return l0;
@@ -2992,7 +2875,6 @@ static inline struct core__option__Option__Fault blocks__reading__first_fault(rt
     uint64_t l4;
     uint64_t l5;
     uint8_t l6;
-    struct block__Fault l7;
     uint8_t l8;
     uint64_t l9;
     struct core__option__Option__Fault l10;
@@ -3018,9 +2900,8 @@ static inline struct core__option__Option__Fault blocks__reading__first_fault(rt
         l10 = block__block_fault(l13, l3, l6);
         switch (l10.tag) {
             case UINT8_C(1): {
-                l7 = l10.s0;
                 l0.tag = UINT8_C(1);
-                l0.s0 = l7;
+                l0.s0 = l10.s0;
                 return l0;
                 break;
             }
@@ -3144,18 +3025,15 @@ static inline struct types__refusal__Refusal blocks__table_number(struct block__
 static RT_HERE struct core__result__Result__u64_WriteError blocks__write_image(rt_slice l1, uint64_t l2, rt_slice l3)
 {
     struct core__result__Result__u64_WriteError l0;
-    uint64_t l4;
     uint64_t l5;
     uint8_t l6;
     uint8_t l7;
     struct blocks__WriteError l8;
-    uint64_t l9;
     uint64_t l10;
     struct blocks__WriteError l11;
     uint8_t *l13;
     rt_slice l14;
-    l4 = l1.n;
-    l6 = blocks__writing__stream_right(l4, l2);
+    l6 = blocks__writing__stream_right(l1.n, l2);
     l7 = (uint8_t)!l6;
     if (l7) {
         l8.tag = UINT8_C(0);
@@ -3163,10 +3041,9 @@ static RT_HERE struct core__result__Result__u64_WriteError blocks__write_image(r
         l0.s1 = l8;
         return l0;
     }
-    l5 = core__int__usize__div_ceil(l4, UINT64_C(504));
-    l9 = l3.n;
+    l5 = core__int__usize__div_ceil(l1.n, UINT64_C(504));
     l10 = (uint64_t)((uint64_t)UINT64_C(512) * (uint64_t)l5);
-    l6 = (uint8_t)(l9 < l10);
+    l6 = (uint8_t)(l3.n < l10);
     if (l6) {
         l11.tag = UINT8_C(1);
         l0.tag = UINT8_C(1);
@@ -3278,10 +3155,6 @@ static RT_APART struct checker__Verdict checker__check(rt_slice l1, rt_slice l2)
     struct rt_array_uint8_128 l5;
     struct rt_array_uint16_512 l6;
     struct core__result__Result__Loaded_Refusal l7;
-    struct load__Loaded l8;
-    struct load__Loaded l9;
-    struct types__refusal__Refusal l10;
-    uint64_t l11;
     uint64_t l12;
     uint8_t *l13;
     rt_slice l14;
@@ -3291,9 +3164,7 @@ static RT_APART struct checker__Verdict checker__check(rt_slice l1, rt_slice l2)
     rt_slice l18;
     uint8_t *l19;
     rt_slice l20;
-    struct load__Loaded l21;
     uint8_t l22;
-    uint64_t l23;
     uint8_t l24;
     uint8_t *l26;
     rt_slice l27;
@@ -3320,56 +3191,32 @@ static RT_APART struct checker__Verdict checker__check(rt_slice l1, rt_slice l2)
     l7 = load__program(l1, l14, l16, l18, l20);
     switch (l7.tag) {
         case UINT8_C(0): {
-            l9.f0 = l7.s0.f0;
-            l9.f1 = l7.s0.f1;
-            l9.f2 = l7.s0.f2;
-            l9.f3 = l7.s0.f3;
-            l9.f4 = l7.s0.f4;
-            l9.f5 = l7.s0.f5;
-            l9.f6 = l7.s0.f6;
-            l21.f0 = l9.f0;
-            l21.f1 = l9.f1;
-            l21.f2 = l9.f2;
-            l21.f3 = l9.f3;
-            l21.f4 = l9.f4;
-            l21.f5 = l9.f5;
-            l21.f6 = l9.f6;
             break;
         }
         case UINT8_C(1): default: {
-            l10 = l7.s1;
-            l22 = types__refusal__U8FromRefusal__from(l10);
+            l22 = types__refusal__U8FromRefusal__from(l7.s1);
             l0 = checker__refused(l22);
             return l0;
             break;
         }
     }
-    l8.f0 = l21.f0;
-    l8.f1 = l21.f1;
-    l8.f2 = l21.f2;
-    l8.f3 = l21.f3;
-    l8.f4 = l21.f4;
-    l8.f5 = l21.f5;
-    l8.f6 = l21.f6;
-    l23 = l2.n;
-    l24 = (uint8_t)(l23 < UINT64_C(1024));
+    l24 = (uint8_t)(l2.n < UINT64_C(1024));
     if (l24) {
         l0 = checker__refused(UINT8_C(13));
         return l0;
     }
-    l11 = l8.f0;
-    l12 = (uint64_t)l8.f3;
+    l12 = (uint64_t)l7.s0.f3;
     l26 = (uint8_t *)&l3;
     l27.p = l26;
-    l27.n = l11;
+    l27.n = l7.s0.f0;
     l28 = (uint8_t *)&l4;
     l29.p = l28;
     l29.n = l12;
     l30 = (uint8_t *)&(*(uint64_t *)l2.p);
     l31.p = l30;
     l31.n = l2.n;
-    emit_steps__program(l27, l29, l8.f1, l31);
-    l0 = checker__accepted(l8);
+    emit_steps__program(l27, l29, l7.s0.f1, l31);
+    l0 = checker__accepted(l7.s0);
     return l0;
 }
 
@@ -3384,7 +3231,7 @@ static inline struct checker__Verdict checker__refused(uint8_t l1)
     return l0;
 }
 
-static RT_HERE struct core__result__Result__Kind_UnknownKind commands__kind__KindTryFromU64__try_from(uint64_t l1)
+static RT_WITHIN struct core__result__Result__Kind_UnknownKind commands__kind__KindTryFromU64__try_from(uint64_t l1)
 {
     struct core__result__Result__Kind_UnknownKind l0;
     struct core__result__Result__Kind_UnknownKind l2;
@@ -3449,7 +3296,7 @@ static RT_HERE struct core__result__Result__Kind_UnknownKind commands__kind__Kin
         default: {
             l11.f0 = l1;
             l2.tag = UINT8_C(1);
-            l2.s1 = l11;
+            l2.s1.f0 = l11.f0;
             break;
         }
     }
@@ -3457,7 +3304,7 @@ static RT_HERE struct core__result__Result__Kind_UnknownKind commands__kind__Kin
     return l0;
 }
 
-static RT_HERE uint64_t commands__kind__U64FromKind__from(struct commands__kind__Kind l1)
+static RT_WITHIN uint64_t commands__kind__U64FromKind__from(struct commands__kind__Kind l1)
 {
     uint64_t l0;
     uint64_t l2;
@@ -3469,17 +3316,13 @@ static RT_HERE uint64_t commands__kind__U64FromKind__from(struct commands__kind_
 static inline struct emit__Put compile__items__add(rt_slice l1, struct emit__Put l2, uint64_t l3)
 {
     struct emit__Put l0;
-    uint64_t l4;
     uint64_t l5;
     uint8_t *l6;
-    uint64_t l7;
-    l4 = l2.f1;
-    l5 = (uint64_t)((uint64_t)l4 * (uint64_t)UINT64_C(8));
+    l5 = (uint64_t)((uint64_t)l2.f1 * (uint64_t)UINT64_C(8));
     l6 = l1.p + (size_t)l5;
     (*(uint64_t *)l6) = l3;
     l5 = (uint64_t)((uint64_t)l2.f1 + (uint64_t)UINT64_C(1));
-    l7 = l2.f0;
-    l0.f0 = l7;
+    l0.f0 = l2.f0;
     l0.f1 = l5;
     return l0;
 }
@@ -3493,7 +3336,6 @@ static inline struct emit__Put compile__items__item(rt_slice l1, uint64_t l2, ui
     uint64_t l9;
     struct emit__Put l10;
     struct emit__Put l11;
-    uint8_t l12;
     uint8_t *l13;
     uint8_t l14;
     struct emit__Put l15;
@@ -3520,8 +3362,7 @@ static inline struct emit__Put compile__items__item(rt_slice l1, uint64_t l2, ui
     rt_slice l36;
     l13 = l1.p + (size_t)l2;
     l14 = (*(uint8_t *)l13);
-    l12 = l14;
-    switch (l12) {
+    switch (l14) {
         case UINT8_C(1): {
             l16 = (uint64_t)((uint64_t)l2 + (uint64_t)UINT64_C(1));
             l17 = l1.p + (size_t)l16;
@@ -3588,7 +3429,6 @@ static inline struct emit__Put compile__items__items(rt_slice l1, uint64_t l2, u
     struct emit__Put l6;
     uint8_t l7;
     uint64_t l8;
-    uint8_t l9;
     uint8_t *l10;
     uint8_t l11;
     uint8_t l12;
@@ -3600,9 +3440,8 @@ static inline struct emit__Put compile__items__items(rt_slice l1, uint64_t l2, u
     l7 = UINT8_C(0);
     l10 = l1.p + (size_t)l2;
     l11 = (*(uint8_t *)l10);
-    l9 = l11;
     for (;;) {
-        l12 = (uint8_t)(l7 < l9);
+        l12 = (uint8_t)(l7 < l11);
         if (l12) {
         } else {
             goto end1;
@@ -3880,20 +3719,12 @@ static RT_HERE struct composing__Pen composing__bytes__lengthened(struct composi
 {
     struct composing__Pen l0;
     uint64_t l2;
-    uint64_t l3;
-    uint64_t l4;
-    uint64_t l5;
-    uint8_t l6;
     l2 = (uint64_t)((uint64_t)l1.f3 + (uint64_t)UINT64_C(1));
-    l3 = l1.f0;
-    l4 = l1.f1;
-    l5 = l1.f2;
-    l6 = l1.f4;
-    l0.f0 = l3;
-    l0.f1 = l4;
-    l0.f2 = l5;
+    l0.f0 = l1.f0;
+    l0.f1 = l1.f1;
+    l0.f2 = l1.f2;
     l0.f3 = l2;
-    l0.f4 = l6;
+    l0.f4 = l1.f4;
     return l0;
 }
 
@@ -3909,92 +3740,80 @@ static inline uint8_t composing__bytes__low(uint32_t l1)
 static RT_HERE struct composing__Pen composing__bytes__numbered(rt_slice l1, rt_slice l2, struct composing__Pen l3)
 {
     struct composing__Pen l0;
-    uint64_t l4;
     uint64_t l5;
     uint64_t l6;
     uint8_t l7;
     uint8_t *l8;
     uint8_t l9;
     uint8_t *l10;
-    uint64_t l11;
-    uint64_t l12;
-    uint8_t l13;
-    l4 = l3.f2;
-    l7 = (uint8_t)(l4 == UINT64_C(0));
+    l7 = (uint8_t)(l3.f2 == UINT64_C(0));
     if (l7) {
-        l0 = composing__bytes__spoilt(l3);
+        {
+            struct composing__Pen r = composing__bytes__spoilt(l3);
+            l0.f0 = r.f0;
+            l0.f1 = r.f1;
+            l0.f2 = r.f2;
+            l0.f3 = r.f3;
+            l0.f4 = r.f4;
+        }
         return l0;
     }
-    l5 = (uint64_t)((uint64_t)l4 - (uint64_t)UINT64_C(1));
+    l5 = (uint64_t)((uint64_t)l3.f2 - (uint64_t)UINT64_C(1));
     l6 = (uint64_t)((uint64_t)l3.f0 - (uint64_t)UINT64_C(1));
     l8 = l2.p + (size_t)l5;
     l9 = (*(uint8_t *)l8);
     l10 = l1.p + (size_t)l6;
     (*(uint8_t *)l10) = l9;
-    l11 = l3.f1;
-    l12 = l3.f3;
-    l13 = l3.f4;
     l0.f0 = l6;
-    l0.f1 = l11;
+    l0.f1 = l3.f1;
     l0.f2 = l5;
-    l0.f3 = l12;
-    l0.f4 = l13;
+    l0.f3 = l3.f3;
+    l0.f4 = l3.f4;
     return l0;
 }
 
 static RT_HERE struct composing__Pen composing__bytes__pathed(rt_slice l1, struct composing__Pen l2)
 {
     struct composing__Pen l0;
-    uint64_t l3;
     struct composing__Pen l4;
     uint8_t l5;
     uint8_t *l6;
     rt_slice l7;
     uint64_t l8;
     uint8_t l9;
-    uint64_t l10;
-    uint64_t l11;
-    uint64_t l12;
-    uint8_t l13;
-    l3 = l2.f3;
-    l5 = (uint8_t)(UINT64_C(3) < l3);
+    l5 = (uint8_t)(UINT64_C(3) < l2.f3);
     if (l5) {
-        l0 = composing__bytes__spoilt(l2);
+        {
+            struct composing__Pen r = composing__bytes__spoilt(l2);
+            l0.f0 = r.f0;
+            l0.f1 = r.f1;
+            l0.f2 = r.f2;
+            l0.f3 = r.f3;
+            l0.f4 = r.f4;
+        }
         return l0;
     }
     l6 = (uint8_t *)&(*(uint8_t *)l1.p);
     l7.p = l6;
     l7.n = l1.n;
-    l8 = (uint64_t)((uint64_t)l3 + (uint64_t)UINT64_C(1));
+    l8 = (uint64_t)((uint64_t)l2.f3 + (uint64_t)UINT64_C(1));
     l9 = (uint8_t)l8;
     l4 = composing__bytes__wrote(l7, l2, l9);
-    l10 = l4.f0;
-    l11 = l4.f1;
-    l12 = l4.f2;
-    l13 = l4.f4;
-    l0.f0 = l10;
-    l0.f1 = l11;
-    l0.f2 = l12;
+    l0.f0 = l4.f0;
+    l0.f1 = l4.f1;
+    l0.f2 = l4.f2;
     l0.f3 = UINT64_C(0);
-    l0.f4 = l13;
+    l0.f4 = l4.f4;
     return l0;
 }
 
 static RT_HERE struct composing__Pen composing__bytes__spoilt(struct composing__Pen l1)
 {
     struct composing__Pen l0;
-    uint64_t l2;
-    uint64_t l3;
-    uint64_t l4;
-    uint64_t l5;
-    l2 = l1.f0;
-    l3 = l1.f1;
-    l4 = l1.f2;
-    l5 = l1.f3;
-    l0.f0 = l2;
-    l0.f1 = l3;
-    l0.f2 = l4;
-    l0.f3 = l5;
+    l0.f0 = l1.f0;
+    l0.f1 = l1.f1;
+    l0.f2 = l1.f2;
+    l0.f3 = l1.f3;
     l0.f4 = 0;
     return l0;
 }
@@ -4039,7 +3858,14 @@ static RT_HERE struct composing__Pen composing__bytes__worded(rt_slice l1, struc
     l18.p = l17;
     l18.n = l1.n;
     l11 = composing__bytes__low(l3);
-    l0 = composing__bytes__wrote(l18, l8, l11);
+    {
+        struct composing__Pen r = composing__bytes__wrote(l18, l8, l11);
+        l0.f0 = r.f0;
+        l0.f1 = r.f1;
+        l0.f2 = r.f2;
+        l0.f3 = r.f3;
+        l0.f4 = r.f4;
+    }
     return l0;
 }
 
@@ -4048,22 +3874,14 @@ static RT_HERE struct composing__Pen composing__bytes__wrote(rt_slice l1, struct
     struct composing__Pen l0;
     uint64_t l4;
     uint8_t *l5;
-    uint64_t l6;
-    uint64_t l7;
-    uint64_t l8;
-    uint8_t l9;
     l4 = (uint64_t)((uint64_t)l2.f0 - (uint64_t)UINT64_C(1));
     l5 = l1.p + (size_t)l4;
     (*(uint8_t *)l5) = l3;
-    l6 = l2.f1;
-    l7 = l2.f2;
-    l8 = l2.f3;
-    l9 = l2.f4;
     l0.f0 = l4;
-    l0.f1 = l6;
-    l0.f2 = l7;
-    l0.f3 = l8;
-    l0.f4 = l9;
+    l0.f1 = l2.f1;
+    l0.f2 = l2.f2;
+    l0.f3 = l2.f3;
+    l0.f4 = l2.f4;
     return l0;
 }
 
@@ -4123,7 +3941,6 @@ static inline uint64_t composing__header__write_header(rt_slice l1, rt_slice l2,
     uint64_t l14;
     uint8_t *l15;
     uint64_t l16;
-    uint64_t l17;
     uint64_t l18;
     uint8_t l19;
     uint8_t *l20;
@@ -4150,8 +3967,7 @@ static inline uint64_t composing__header__write_header(rt_slice l1, rt_slice l2,
     }
 end1:;
     l5 = (uint64_t)((uint64_t)l5 - (uint64_t)UINT64_C(1));
-    l17 = l3.n;
-    l18 = (uint64_t)((uint64_t)l17 - (uint64_t)UINT64_C(1));
+    l18 = (uint64_t)((uint64_t)l3.n - (uint64_t)UINT64_C(1));
     l19 = (uint8_t)l18;
     l20 = l1.p + (size_t)l5;
     (*(uint8_t *)l20) = l19;
@@ -4185,7 +4001,6 @@ static RT_HERE struct composing__Pen composing__pouring__begun(rt_slice l1, rt_s
 {
     struct composing__Pen l0;
     struct composing__Pen l4;
-    uint64_t l5;
     uint8_t *l6;
     rt_slice l7;
     uint8_t l8;
@@ -4193,13 +4008,26 @@ static RT_HERE struct composing__Pen composing__pouring__begun(rt_slice l1, rt_s
     l7.p = l6;
     l7.n = l1.n;
     l4 = composing__pouring__poured(l7, l2, l3, UINT8_C(0));
-    l5 = l4.f1;
-    l8 = (uint8_t)(l5 == UINT64_C(0));
+    l8 = (uint8_t)(l4.f1 == UINT64_C(0));
     if (l8) {
-        l0 = composing__bytes__spoilt(l4);
+        {
+            struct composing__Pen r = composing__bytes__spoilt(l4);
+            l0.f0 = r.f0;
+            l0.f1 = r.f1;
+            l0.f2 = r.f2;
+            l0.f3 = r.f3;
+            l0.f4 = r.f4;
+        }
         return l0;
     }
-    l0 = composing__waiting__popped(l4);
+    {
+        struct composing__Pen r = composing__waiting__popped(l4);
+        l0.f0 = r.f0;
+        l0.f1 = r.f1;
+        l0.f2 = r.f2;
+        l0.f3 = r.f3;
+        l0.f4 = r.f4;
+    }
     return l0;
 }
 
@@ -4255,13 +4083,7 @@ static RT_HERE struct composing__Pen composing__pouring__poured(rt_slice l1, rt_
     uint8_t *l9;
     uint8_t l10;
     uint64_t l11;
-    uint64_t l12;
-    uint64_t l13;
-    uint8_t l14;
     uint8_t *l15;
-    uint64_t l16;
-    uint64_t l17;
-    uint8_t l18;
     l5 = l3.f0;
     l6 = l3.f1;
     for (;;) {
@@ -4278,19 +4100,23 @@ static RT_HERE struct composing__Pen composing__pouring__poured(rt_slice l1, rt_
         l8 = (uint8_t)(l10 <= l4);
         if (l8) {
             l11 = (uint64_t)((uint64_t)l6 + (uint64_t)UINT64_C(1));
-            l12 = l3.f2;
-            l13 = l3.f3;
-            l14 = l3.f4;
             l0.f0 = l5;
             l0.f1 = l11;
-            l0.f2 = l12;
-            l0.f3 = l13;
-            l0.f4 = l14;
+            l0.f2 = l3.f2;
+            l0.f3 = l3.f3;
+            l0.f4 = l3.f4;
             return l0;
         }
         l8 = (uint8_t)(l5 <= UINT64_C(6));
         if (l8) {
-            l0 = composing__bytes__spoilt(l3);
+            {
+                struct composing__Pen r = composing__bytes__spoilt(l3);
+                l0.f0 = r.f0;
+                l0.f1 = r.f1;
+                l0.f2 = r.f2;
+                l0.f3 = r.f3;
+                l0.f4 = r.f4;
+            }
             return l0;
         }
         l5 = (uint64_t)((uint64_t)l5 - (uint64_t)UINT64_C(1));
@@ -4298,14 +4124,11 @@ static RT_HERE struct composing__Pen composing__pouring__poured(rt_slice l1, rt_
         (*(uint8_t *)l15) = l7;
     }
 end1:;
-    l16 = l3.f2;
-    l17 = l3.f3;
-    l18 = l3.f4;
     l0.f0 = l5;
     l0.f1 = UINT64_C(0);
-    l0.f2 = l16;
-    l0.f3 = l17;
-    l0.f4 = l18;
+    l0.f2 = l3.f2;
+    l0.f3 = l3.f3;
+    l0.f4 = l3.f4;
     return l0;
 }
 
@@ -4407,7 +4230,14 @@ static RT_HERE struct composing__Pen composing__roles__put(rt_slice l1, rt_slice
     l25.n = l2.n;
     l16 = composing__table__mark(UINT64_C(3), l7);
     l17 = (uint8_t)((uint32_t)l5 + (uint32_t)UINT8_C(9));
-    l0 = composing__waiting__stacked(l23, l25, l10, l16, l17);
+    {
+        struct composing__Pen r = composing__waiting__stacked(l23, l25, l10, l16, l17);
+        l0.f0 = r.f0;
+        l0.f1 = r.f1;
+        l0.f2 = r.f2;
+        l0.f3 = r.f3;
+        l0.f4 = r.f4;
+    }
     return l0;
 }
 
@@ -4427,9 +4257,7 @@ static RT_HERE struct core__option__Option__u64 composing__stream(rt_slice l1, r
 {
     struct core__option__Option__u64 l0;
     struct composing__Pen l8;
-    uint64_t l9;
     struct composing__Pen l10;
-    uint64_t l11;
     uint64_t l12;
     uint8_t *l13;
     rt_slice l14;
@@ -4449,13 +4277,12 @@ static RT_HERE struct core__option__Option__u64 composing__stream(rt_slice l1, r
     l16.p = l15;
     l16.n = l7.n;
     l8 = composing__written(l1, l2, l3, l14, l16);
-    l9 = l8.f0;
     l17 = (uint8_t)!l8.f4;
     if (l17) {
         l0.tag = UINT8_C(0);
         return l0;
     }
-    l17 = (uint8_t)(l9 <= UINT64_C(146));
+    l17 = (uint8_t)(l8.f0 <= UINT64_C(146));
     if (l17) {
         l0.tag = UINT8_C(0);
         return l0;
@@ -4467,7 +4294,6 @@ static RT_HERE struct core__option__Option__u64 composing__stream(rt_slice l1, r
     l21.p = l20;
     l21.n = l6.n;
     l10 = composing__waiting__counted(l19, l21, l8);
-    l11 = l10.f0;
     l17 = (uint8_t)!l10.f4;
     if (l17) {
         l0.tag = UINT8_C(0);
@@ -4476,7 +4302,7 @@ static RT_HERE struct core__option__Option__u64 composing__stream(rt_slice l1, r
     l22 = (uint8_t *)&(*(uint8_t *)l7.p);
     l23.p = l22;
     l23.n = l7.n;
-    l12 = composing__header__write_header(l23, l5, l4, l11);
+    l12 = composing__header__write_header(l23, l5, l4, l10.f0);
     l17 = (uint8_t)(l12 < UINT64_C(146));
     if (l17) {
         l0.tag = UINT8_C(0);
@@ -4491,7 +4317,6 @@ static inline uint8_t composing__table__mark(uint64_t l1, uint64_t l2)
 {
     uint8_t l0;
     uint64_t l3;
-    uint8_t l4;
     uint64_t l5;
     rt_slice l6;
     uint8_t *l7;
@@ -4501,8 +4326,7 @@ static inline uint8_t composing__table__mark(uint64_t l1, uint64_t l2)
     l6 = composing__table__marks();
     l7 = l6.p + (size_t)l3;
     l8 = (*(uint8_t *)l7);
-    l4 = l8;
-    l0 = (uint8_t)((uint32_t)l4 - (uint32_t)UINT8_C(48));
+    l0 = (uint8_t)((uint32_t)l8 - (uint32_t)UINT8_C(48));
     return l0;
 }
 
@@ -4522,7 +4346,6 @@ static RT_HERE rt_slice composing__table__marks(void)
 static RT_HERE struct composing__Pen composing__waiting__counted(rt_slice l1, rt_slice l2, struct composing__Pen l3)
 {
     struct composing__Pen l0;
-    uint64_t l4;
     uint64_t l5;
     uint8_t l6;
     uint8_t *l7;
@@ -4530,46 +4353,71 @@ static RT_HERE struct composing__Pen composing__waiting__counted(rt_slice l1, rt
     struct composing__Pen l9;
     uint8_t *l10;
     uint8_t l11;
-    l4 = l3.f1;
-    l6 = (uint8_t)(l4 == UINT64_C(0));
+    l6 = (uint8_t)(l3.f1 == UINT64_C(0));
     if (l6) {
-        l0 = composing__bytes__spoilt(l3);
+        {
+            struct composing__Pen r = composing__bytes__spoilt(l3);
+            l0.f0 = r.f0;
+            l0.f1 = r.f1;
+            l0.f2 = r.f2;
+            l0.f3 = r.f3;
+            l0.f4 = r.f4;
+        }
         return l0;
     }
-    l5 = (uint64_t)((uint64_t)l4 - (uint64_t)UINT64_C(1));
+    l5 = (uint64_t)((uint64_t)l3.f1 - (uint64_t)UINT64_C(1));
     l7 = (uint8_t *)&(*(uint8_t *)l1.p);
     l8.p = l7;
     l8.n = l1.n;
     l9 = composing__waiting__popped(l3);
     l10 = l2.p + (size_t)l5;
     l11 = (*(uint8_t *)l10);
-    l0 = composing__bytes__wrote(l8, l9, l11);
+    {
+        struct composing__Pen r = composing__bytes__wrote(l8, l9, l11);
+        l0.f0 = r.f0;
+        l0.f1 = r.f1;
+        l0.f2 = r.f2;
+        l0.f3 = r.f3;
+        l0.f4 = r.f4;
+    }
     return l0;
 }
 
 static RT_HERE struct composing__Pen composing__waiting__more(rt_slice l1, struct composing__Pen l2, uint8_t l3)
 {
     struct composing__Pen l0;
-    uint64_t l4;
     uint64_t l5;
     uint8_t l6;
     uint8_t l7;
     uint8_t *l8;
     uint8_t l9;
     uint8_t *l10;
-    l4 = l2.f1;
-    l7 = (uint8_t)(l4 == UINT64_C(0));
+    l7 = (uint8_t)(l2.f1 == UINT64_C(0));
     if (l7) {
-        l0 = composing__bytes__spoilt(l2);
+        {
+            struct composing__Pen r = composing__bytes__spoilt(l2);
+            l0.f0 = r.f0;
+            l0.f1 = r.f1;
+            l0.f2 = r.f2;
+            l0.f3 = r.f3;
+            l0.f4 = r.f4;
+        }
         return l0;
     }
-    l5 = (uint64_t)((uint64_t)l4 - (uint64_t)UINT64_C(1));
+    l5 = (uint64_t)((uint64_t)l2.f1 - (uint64_t)UINT64_C(1));
     l8 = l1.p + (size_t)l5;
     l9 = (*(uint8_t *)l8);
     l6 = l9;
     l7 = (uint8_t)(l3 <= l6);
     if (l7) {
-        l0 = composing__bytes__spoilt(l2);
+        {
+            struct composing__Pen r = composing__bytes__spoilt(l2);
+            l0.f0 = r.f0;
+            l0.f1 = r.f1;
+            l0.f2 = r.f2;
+            l0.f3 = r.f3;
+            l0.f4 = r.f4;
+        }
         return l0;
     }
     l9 = (uint8_t)((uint32_t)l6 + (uint32_t)UINT8_C(1));
@@ -4586,26 +4434,16 @@ static RT_HERE struct composing__Pen composing__waiting__more(rt_slice l1, struc
 static RT_HERE struct composing__Pen composing__waiting__opened(rt_slice l1, struct composing__Pen l2, uint8_t l3)
 {
     struct composing__Pen l0;
-    uint64_t l4;
     uint8_t *l5;
     uint64_t l6;
-    uint64_t l7;
-    uint64_t l8;
-    uint64_t l9;
-    uint8_t l10;
-    l4 = l2.f1;
-    l5 = l1.p + (size_t)l4;
+    l5 = l1.p + (size_t)l2.f1;
     (*(uint8_t *)l5) = l3;
-    l6 = (uint64_t)((uint64_t)l4 + (uint64_t)UINT64_C(1));
-    l7 = l2.f0;
-    l8 = l2.f2;
-    l9 = l2.f3;
-    l10 = l2.f4;
-    l0.f0 = l7;
+    l6 = (uint64_t)((uint64_t)l2.f1 + (uint64_t)UINT64_C(1));
+    l0.f0 = l2.f0;
     l0.f1 = l6;
-    l0.f2 = l8;
-    l0.f3 = l9;
-    l0.f4 = l10;
+    l0.f2 = l2.f2;
+    l0.f3 = l2.f3;
+    l0.f4 = l2.f4;
     return l0;
 }
 
@@ -4613,20 +4451,12 @@ static RT_HERE struct composing__Pen composing__waiting__popped(struct composing
 {
     struct composing__Pen l0;
     uint64_t l2;
-    uint64_t l3;
-    uint64_t l4;
-    uint64_t l5;
-    uint8_t l6;
     l2 = (uint64_t)((uint64_t)l1.f1 - (uint64_t)UINT64_C(1));
-    l3 = l1.f0;
-    l4 = l1.f2;
-    l5 = l1.f3;
-    l6 = l1.f4;
-    l0.f0 = l3;
+    l0.f0 = l1.f0;
     l0.f1 = l2;
-    l0.f2 = l4;
-    l0.f3 = l5;
-    l0.f4 = l6;
+    l0.f2 = l1.f2;
+    l0.f3 = l1.f3;
+    l0.f4 = l1.f4;
     return l0;
 }
 
@@ -4728,10 +4558,8 @@ static RT_HERE struct composing__Pen composing__written(rt_slice l1, rt_slice l2
     struct composing__Pen l0;
     struct composing__Pen l6;
     uint64_t l7;
-    uint8_t l8;
     uint8_t *l9;
     uint64_t l10;
-    uint64_t l11;
     uint8_t l12;
     uint8_t *l13;
     uint8_t l14;
@@ -4744,10 +4572,9 @@ static RT_HERE struct composing__Pen composing__written(rt_slice l1, rt_slice l2
     l9 = l4.p + (size_t)UINT64_C(0);
     (*(uint8_t *)l9) = UINT8_C(0);
     l10 = l5.n;
-    l11 = l3.n;
     l6.f0 = l10;
     l6.f1 = UINT64_C(1);
-    l6.f2 = l11;
+    l6.f2 = l3.n;
     l6.f3 = UINT64_C(0);
     l6.f4 = 1;
     l10 = l2.n;
@@ -4761,19 +4588,25 @@ static RT_HERE struct composing__Pen composing__written(rt_slice l1, rt_slice l2
         l7 = (uint64_t)((uint64_t)l7 - (uint64_t)UINT64_C(1));
         l13 = l2.p + (size_t)l7;
         l14 = (*(uint8_t *)l13);
-        l8 = l14;
         l15 = (uint8_t *)&(*(uint8_t *)l5.p);
         l16.p = l15;
         l16.n = l5.n;
         l17 = (uint8_t *)&(*(uint8_t *)l4.p);
         l18.p = l17;
         l18.n = l4.n;
-        l19 = composing__literal(l1, l7, l8);
-        l6 = composing__roles__put(l16, l18, l3, l6, l8, l19);
+        l19 = composing__literal(l1, l7, l14);
+        l6 = composing__roles__put(l16, l18, l3, l6, l14, l19);
         l12 = composing__roomy(l6);
         l20 = (uint8_t)!l12;
         if (l20) {
-            l0 = composing__bytes__spoilt(l6);
+            {
+                struct composing__Pen r = composing__bytes__spoilt(l6);
+                l0.f0 = r.f0;
+                l0.f1 = r.f1;
+                l0.f2 = r.f2;
+                l0.f3 = r.f3;
+                l0.f4 = r.f4;
+            }
             return l0;
         }
         l7 = lexer__gaps__start(l2, l7);
@@ -4787,85 +4620,85 @@ end1:;
     return l0;
 }
 
-static RT_HERE void core__Destruct__none__drop__OperatorError(struct operators__OperatorError l1)
+static RT_WITHIN void core__Destruct__none__drop__OperatorError(struct operators__OperatorError l1)
 {
     (void)l1;
     return;
 }
 
-static RT_HERE void core__Destruct__none__drop__Range_u64(struct core__iter__ranges__Range__u64 l1)
+static RT_WITHIN void core__Destruct__none__drop__Range_u64(struct core__iter__ranges__Range__u64 l1)
 {
     (void)l1;
     return;
 }
 
-static RT_HERE void core__Destruct__none__drop__Refusal(struct types__refusal__Refusal l1)
+static RT_WITHIN void core__Destruct__none__drop__Refusal(struct types__refusal__Refusal l1)
 {
     (void)l1;
     return;
 }
 
-static RT_HERE void core__Destruct__none__drop__TryFromIntError(struct core__num__TryFromIntError l1)
+static RT_WITHIN void core__Destruct__none__drop__TryFromIntError(struct core__num__TryFromIntError l1)
 {
     (void)l1;
     return;
 }
 
-static RT_HERE void core__Destruct__none__drop__all_Self(struct block__fn__zeros__all_Self l1)
+static RT_WITHIN void core__Destruct__none__drop__all_Self(struct block__fn__zeros__all_Self l1)
 {
     (void)l1;
     return;
 }
 
-static RT_HERE void core__Destruct__none__drop__between_all_Self_slice_u8_slice_u64(struct resolve__declarations__fn__rows_ok__between_all_Self___17487529 l1)
+static RT_WITHIN void core__Destruct__none__drop__between_all_Self_slice_u8_slice_u64(struct resolve__declarations__fn__rows_ok__between_all_Self___17487529 l1)
 {
     (void)l1;
     return;
 }
 
-static RT_HERE void core__Destruct__none__drop__map_Self(struct lexer__fn__followed__map_Self l1)
+static RT_WITHIN void core__Destruct__none__drop__map_Self(struct lexer__fn__followed__map_Self l1)
 {
     (void)l1;
     return;
 }
 
-static RT_HERE void core__Destruct__none__drop__position_Self_slice_u8_ref_u64(struct resolve__names__fn__lookup__position_Self__slice_u8_ref_u64 l1)
+static RT_WITHIN void core__Destruct__none__drop__position_Self_slice_u8_ref_u64(struct resolve__names__fn__lookup__position_Self__slice_u8_ref_u64 l1)
 {
     (void)l1;
     return;
 }
 
-static RT_HERE void core__Destruct__none__drop__ref_u8(uint8_t *l1)
+static RT_WITHIN void core__Destruct__none__drop__ref_u8(uint8_t *l1)
 {
     (void)l1;
     return;
 }
 
-static RT_HERE void core__Destruct__none__drop__u16(uint16_t l1)
+static RT_WITHIN void core__Destruct__none__drop__u16(uint16_t l1)
 {
     (void)l1;
     return;
 }
 
-static RT_HERE void core__Destruct__none__drop__u32(uint32_t l1)
+static RT_WITHIN void core__Destruct__none__drop__u32(uint32_t l1)
 {
     (void)l1;
     return;
 }
 
-static RT_HERE void core__Destruct__none__drop__u64(uint64_t l1)
+static RT_WITHIN void core__Destruct__none__drop__u64(uint64_t l1)
 {
     (void)l1;
     return;
 }
 
-static RT_HERE void core__Destruct__none__drop__u8(uint8_t l1)
+static RT_WITHIN void core__Destruct__none__drop__u8(uint8_t l1)
 {
     (void)l1;
     return;
 }
 
-static RT_HERE void core__Destruct__none__drop__unit(void)
+static RT_WITHIN void core__Destruct__none__drop__unit(void)
 {
     return;
 }
@@ -4989,7 +4822,7 @@ static inline uint8_t core__char__ranges__in_two_ranges(uint32_t l1, uint8_t l2,
     return l0;
 }
 
-static RT_HERE struct core__result__Result__u8_AllocError core__clone__U8Clone__clone(uint8_t *l1)
+static RT_WITHIN struct core__result__Result__u8_AllocError core__clone__U8Clone__clone(uint8_t *l1)
 {
     struct core__result__Result__u8_AllocError l0;
     uint8_t l2;
@@ -4999,17 +4832,13 @@ static RT_HERE struct core__result__Result__u8_AllocError core__clone__U8Clone__
     return l0;
 }
 
-static RT_HERE uint8_t core__clone__surely__u8(uint8_t *l1)
+static RT_WITHIN uint8_t core__clone__surely__u8(uint8_t *l1)
 {
     uint8_t l0;
-    uint8_t l2;
     struct core__result__Result__u8_AllocError l3;
-    uint8_t l4;
     l3 = core__clone__U8Clone__clone(l1);
     switch (l3.tag) {
         case UINT8_C(0): {
-            l2 = l3.s0;
-            l4 = l2;
             break;
         }
         case UINT8_C(1): default: {
@@ -5018,7 +4847,7 @@ static RT_HERE uint8_t core__clone__surely__u8(uint8_t *l1)
             break;
         }
     }
-    l0 = l4;
+    l0 = l3.s0;
     return l0;
 }
 
@@ -5066,17 +4895,15 @@ static inline uint8_t core__cmp__Ordering__is_lt(struct core__cmp__Ordering l1)
     return l0;
 }
 
-static RT_HERE uint8_t core__cmp__PartialOrd__le__u8(uint8_t *l1, uint8_t *l2)
+static RT_WITHIN uint8_t core__cmp__PartialOrd__le__u8(uint8_t *l1, uint8_t *l2)
 {
     uint8_t l0;
-    struct core__cmp__Ordering l3;
     struct core__option__Option__Ordering l4;
     uint8_t l5;
     l4 = core__cmp__numbers__U8PartialOrd__partial_cmp(l1, l2);
     switch (l4.tag) {
         case UINT8_C(1): {
-            l3 = l4.s0;
-            l5 = core__cmp__Ordering__is_le(l3);
+            l5 = core__cmp__Ordering__is_le(l4.s0);
             break;
         }
         case UINT8_C(0): default: {
@@ -5088,17 +4915,15 @@ static RT_HERE uint8_t core__cmp__PartialOrd__le__u8(uint8_t *l1, uint8_t *l2)
     return l0;
 }
 
-static RT_HERE uint8_t core__cmp__PartialOrd__lt__u8(uint8_t *l1, uint8_t *l2)
+static RT_WITHIN uint8_t core__cmp__PartialOrd__lt__u8(uint8_t *l1, uint8_t *l2)
 {
     uint8_t l0;
-    struct core__cmp__Ordering l3;
     struct core__option__Option__Ordering l4;
     uint8_t l5;
     l4 = core__cmp__numbers__U8PartialOrd__partial_cmp(l1, l2);
     switch (l4.tag) {
         case UINT8_C(1): {
-            l3 = l4.s0;
-            l5 = core__cmp__Ordering__is_lt(l3);
+            l5 = core__cmp__Ordering__is_lt(l4.s0);
             break;
         }
         case UINT8_C(0): default: {
@@ -5110,11 +4935,9 @@ static RT_HERE uint8_t core__cmp__PartialOrd__lt__u8(uint8_t *l1, uint8_t *l2)
     return l0;
 }
 
-static RT_HERE struct core__cmp__Ordering core__cmp__numbers__U8Ord__cmp(uint8_t *l1, uint8_t *l2)
+static RT_WITHIN struct core__cmp__Ordering core__cmp__numbers__U8Ord__cmp(uint8_t *l1, uint8_t *l2)
 {
     struct core__cmp__Ordering l0;
-    uint8_t l3;
-    uint8_t l4;
     uint8_t l5;
     uint8_t l6;
     uint8_t l7;
@@ -5123,13 +4946,11 @@ static RT_HERE struct core__cmp__Ordering core__cmp__numbers__U8Ord__cmp(uint8_t
     struct core__cmp__Ordering l10;
     l5 = (*(uint8_t *)l1);
     l6 = (*(uint8_t *)l2);
-    l3 = l5;
-    l4 = l6;
-    l7 = (uint8_t)(l3 == l4);
+    l7 = (uint8_t)(l5 == l6);
     if (l7) {
         l8.tag = UINT8_C(1);
     } else {
-        l9 = (uint8_t)(l3 < l4);
+        l9 = (uint8_t)(l5 < l6);
         if (l9) {
             l10.tag = UINT8_C(0);
         } else {
@@ -5141,7 +4962,7 @@ static RT_HERE struct core__cmp__Ordering core__cmp__numbers__U8Ord__cmp(uint8_t
     return l0;
 }
 
-static RT_HERE uint8_t core__cmp__numbers__U8PartialEq__eq(uint8_t *l1, uint8_t *l2)
+static RT_WITHIN uint8_t core__cmp__numbers__U8PartialEq__eq(uint8_t *l1, uint8_t *l2)
 {
     uint8_t l0;
     uint8_t l3;
@@ -5152,7 +4973,7 @@ static RT_HERE uint8_t core__cmp__numbers__U8PartialEq__eq(uint8_t *l1, uint8_t 
     return l0;
 }
 
-static RT_HERE struct core__option__Option__Ordering core__cmp__numbers__U8PartialOrd__partial_cmp(uint8_t *l1, uint8_t *l2)
+static RT_WITHIN struct core__option__Option__Ordering core__cmp__numbers__U8PartialOrd__partial_cmp(uint8_t *l1, uint8_t *l2)
 {
     struct core__option__Option__Ordering l0;
     struct core__cmp__Ordering l3;
@@ -5162,11 +4983,9 @@ static RT_HERE struct core__option__Option__Ordering core__cmp__numbers__U8Parti
     return l0;
 }
 
-static RT_HERE uint8_t core__cmp__slices__ElementMismatchPlaceTest__at__u8(uint8_t *l1, uint64_t l2)
+static RT_WITHIN uint8_t core__cmp__slices__ElementMismatchPlaceTest__at__u8(uint8_t *l1, uint64_t l2)
 {
     uint8_t l0;
-    rt_slice l3;
-    rt_slice l4;
     rt_slice l5;
     rt_slice l6;
     uint8_t l7;
@@ -5178,20 +4997,18 @@ static RT_HERE uint8_t core__cmp__slices__ElementMismatchPlaceTest__at__u8(uint8
     uint8_t *l13;
     l5 = (*(struct core__cmp__slices__ElementMismatch__u8 *)l1).f0;
     l6 = (*(struct core__cmp__slices__ElementMismatch__u8 *)l1).f1;
-    l3 = l5;
-    l4 = l6;
     l8 = (uint64_t)((uint64_t)l2 * (uint64_t)UINT64_C(1));
-    l9 = l3.p + (size_t)l8;
+    l9 = l5.p + (size_t)l8;
     l10 = (uint8_t *)&(*(uint8_t *)l9);
     l11 = (uint64_t)((uint64_t)l2 * (uint64_t)UINT64_C(1));
-    l12 = l4.p + (size_t)l11;
+    l12 = l6.p + (size_t)l11;
     l13 = (uint8_t *)&(*(uint8_t *)l12);
     l7 = core__cmp__numbers__U8PartialEq__eq(l10, l13);
     l0 = (uint8_t)!l7;
     return l0;
 }
 
-static RT_HERE uint8_t core__cmp__slices__RefSlicePartialEq__eq__u8(uint8_t *l1, uint8_t *l2)
+static RT_WITHIN uint8_t core__cmp__slices__RefSlicePartialEq__eq__u8(uint8_t *l1, uint8_t *l2)
 {
     uint8_t l0;
     rt_slice l3;
@@ -5202,7 +5019,7 @@ static RT_HERE uint8_t core__cmp__slices__RefSlicePartialEq__eq__u8(uint8_t *l1,
     return l0;
 }
 
-static RT_HERE uint8_t core__cmp__slices__all_equal__u8(rt_slice l1, rt_slice l2)
+static RT_WITHIN uint8_t core__cmp__slices__all_equal__u8(rt_slice l1, rt_slice l2)
 {
     uint8_t l0;
     uint64_t l3;
@@ -5230,35 +5047,33 @@ static RT_HERE uint8_t core__cmp__slices__all_equal__u8(rt_slice l1, rt_slice l2
     return l0;
 }
 
-static RT_HERE uint8_t core__cmp__slices__groups_equal__u8(rt_slice l1, rt_slice l2)
+static RT_WITHIN uint8_t core__cmp__slices__groups_equal__u8(rt_slice l1, rt_slice l2)
 {
     uint8_t l0;
     uint8_t l3;
     struct core__cmp__slices__ElementMismatch__u8 l4;
     struct core__cmp__slices__ElementMismatch__u8 l5;
     uint8_t *l6;
-    uint64_t l7;
     uint64_t l8;
     l4.f0 = l1;
     l4.f1 = l2;
     l5.f0 = l4.f0;
     l5.f1 = l4.f1;
     l6 = (uint8_t *)&l5;
-    l7 = l1.n;
     l8 = core__slice__scan__group__u8();
-    l3 = core__slice__scan__any_by_groups__ElementMismatch_u8(l6, l7, l8);
+    l3 = core__slice__scan__any_by_groups__ElementMismatch_u8(l6, l1.n, l8);
     l0 = (uint8_t)!l3;
     return l0;
 }
 
-static RT_HERE uint8_t core__cmp__slices__parts_equal__u8(rt_slice l1, rt_slice l2)
+static RT_WITHIN uint8_t core__cmp__slices__parts_equal__u8(rt_slice l1, rt_slice l2)
 {
     uint8_t l0;
     l0 = core__cmp__slices__all_equal__u8(l1, l2);
     return l0;
 }
 
-static RT_HERE uint8_t core__cmp__slices__slices_equal__u8(rt_slice l1, rt_slice l2)
+static RT_WITHIN uint8_t core__cmp__slices__slices_equal__u8(rt_slice l1, rt_slice l2)
 {
     uint8_t l0;
     struct core__cmp__slices__ElementMismatch__u8 l3;
@@ -5268,7 +5083,6 @@ static RT_HERE uint8_t core__cmp__slices__slices_equal__u8(rt_slice l1, rt_slice
     uint8_t l7;
     uint8_t l8;
     uint8_t *l9;
-    uint64_t l10;
     uint8_t l11;
     uint8_t *l12;
     l5 = l1.n;
@@ -5292,8 +5106,7 @@ static RT_HERE uint8_t core__cmp__slices__slices_equal__u8(rt_slice l1, rt_slice
     l7 = (uint8_t)(l5 < l4);
     if (l7) {
         l9 = (uint8_t *)&l3;
-        l10 = l1.n;
-        l8 = core__slice__scan__any_by_one__ElementMismatch_u8(l9, l10);
+        l8 = core__slice__scan__any_by_one__ElementMismatch_u8(l9, l1.n);
         l0 = (uint8_t)!l8;
         return l0;
     }
@@ -5307,113 +5120,103 @@ static RT_HERE uint8_t core__cmp__slices__slices_equal__u8(rt_slice l1, rt_slice
     return l0;
 }
 
-static RT_HERE struct operators__OperatorError core__convert__AnyFrom__from__OperatorError(struct operators__OperatorError l1)
+static RT_WITHIN struct operators__OperatorError core__convert__AnyFrom__from__OperatorError(struct operators__OperatorError l1)
 {
     struct operators__OperatorError l0;
     l0 = l1;
     return l0;
 }
 
-static RT_HERE struct types__refusal__Refusal core__convert__AnyFrom__from__Refusal(struct types__refusal__Refusal l1)
+static RT_WITHIN struct types__refusal__Refusal core__convert__AnyFrom__from__Refusal(struct types__refusal__Refusal l1)
 {
     struct types__refusal__Refusal l0;
     l0 = l1;
     return l0;
 }
 
-static RT_HERE uint64_t core__convert__I64FromI32__from(uint32_t l1)
+static RT_WITHIN uint64_t core__convert__I64FromI32__from(uint32_t l1)
 {
     uint64_t l0;
     l0 = (uint64_t)((uint64_t)(l1 ^ UINT32_C(2147483648)) - UINT64_C(2147483648));
     return l0;
 }
 
-static RT_HERE uint16_t core__convert__U16FromU8__from(uint8_t l1)
+static RT_WITHIN uint16_t core__convert__U16FromU8__from(uint8_t l1)
 {
     uint16_t l0;
     l0 = (uint16_t)l1;
     return l0;
 }
 
-static RT_HERE uint32_t core__convert__U32FromU16__from(uint16_t l1)
+static RT_WITHIN uint32_t core__convert__U32FromU16__from(uint16_t l1)
 {
     uint32_t l0;
     l0 = (uint32_t)l1;
     return l0;
 }
 
-static RT_HERE uint32_t core__convert__U32FromU8__from(uint8_t l1)
+static RT_WITHIN uint32_t core__convert__U32FromU8__from(uint8_t l1)
 {
     uint32_t l0;
     l0 = (uint32_t)l1;
     return l0;
 }
 
-static RT_HERE uint64_t core__convert__U64FromU32__from(uint32_t l1)
+static RT_WITHIN uint64_t core__convert__U64FromU32__from(uint32_t l1)
 {
     uint64_t l0;
     l0 = (uint64_t)l1;
     return l0;
 }
 
-static RT_HERE uint64_t core__convert__U64FromU8__from(uint8_t l1)
+static RT_WITHIN uint64_t core__convert__U64FromU8__from(uint8_t l1)
 {
     uint64_t l0;
     l0 = (uint64_t)l1;
     return l0;
 }
 
-static RT_HERE uint64_t core__convert__UsizeFromU16__from(uint16_t l1)
+static RT_WITHIN uint64_t core__convert__UsizeFromU16__from(uint16_t l1)
 {
     uint64_t l0;
     l0 = (uint64_t)l1;
     return l0;
 }
 
-static RT_HERE uint64_t core__convert__UsizeFromU8__from(uint8_t l1)
+static RT_WITHIN uint64_t core__convert__UsizeFromU8__from(uint8_t l1)
 {
     uint64_t l0;
     l0 = (uint64_t)l1;
     return l0;
 }
 
-static RT_HERE uint32_t core__convert__others__U32FromBool__from(uint8_t l1)
+static RT_WITHIN uint32_t core__convert__others__U32FromBool__from(uint8_t l1)
 {
     uint32_t l0;
     l0 = (uint32_t)l1;
     return l0;
 }
 
-static RT_HERE uint64_t core__convert__others__UsizeFromBool__from(uint8_t l1)
+static RT_WITHIN uint64_t core__convert__others__UsizeFromBool__from(uint8_t l1)
 {
     uint64_t l0;
     l0 = (uint64_t)l1;
     return l0;
 }
 
-static RT_HERE struct core__result__Result__u32_TryFromIntError core__convert__try_from__AnyTryFrom__try_from__u64_u32(uint64_t l1)
+static RT_WITHIN struct core__result__Result__u32_TryFromIntError core__convert__try_from__AnyTryFrom__try_from__u64_u32(uint64_t l1)
 {
     struct core__result__Result__u32_TryFromIntError l0;
-    uint8_t l2;
-    uint64_t l3;
-    uint32_t l4;
     struct rt_tuple2__bool_u64 l5;
-    uint64_t l6;
     struct core__option__Option__u32 l7;
     struct core__result__Result__u32_TryFromIntError l8;
-    uint32_t l9;
     struct core__num__TryFromIntError l10;
-    l6 = l1;
-    l5 = core__convert__try_from__I64Integer__split(l6);
-    l2 = l5.f0;
-    l3 = l5.f1;
-    l7 = core__convert__try_from__I32Integer__join(l2, l3);
+    l5 = core__convert__try_from__I64Integer__split(l1);
+    l7 = core__convert__try_from__I32Integer__join(l5.f0, l5.f1);
     switch (l7.tag) {
         case UINT8_C(1): {
-            l4 = l7.s0;
-            l9 = l4;
             l8.tag = UINT8_C(0);
-            l8.s0 = l9;
+            l8.s0 = l7.s0;
             break;
         }
         case UINT8_C(0): default: {
@@ -5427,13 +5230,12 @@ static RT_HERE struct core__result__Result__u32_TryFromIntError core__convert__t
     return l0;
 }
 
-static RT_HERE struct core__option__Option__u32 core__convert__try_from__I32Integer__join(uint8_t l1, uint64_t l2)
+static RT_WITHIN struct core__option__Option__u32 core__convert__try_from__I32Integer__join(uint8_t l1, uint64_t l2)
 {
     struct core__option__Option__u32 l0;
     uint64_t l3;
     uint8_t l4;
     struct core__option__Option__u32 l5;
-    uint8_t l6;
     struct core__option__Option__u32 l7;
     uint32_t l8;
     uint32_t l9;
@@ -5443,8 +5245,7 @@ static RT_HERE struct core__option__Option__u32 core__convert__try_from__I32Inte
     if (l4) {
         l5.tag = UINT8_C(0);
     } else {
-        l6 = l1;
-        if (l6) {
+        if (l1) {
             l8 = (uint32_t)l2;
             l9 = (uint32_t)~(uint32_t)l8;
             l7.tag = UINT8_C(1);
@@ -5460,7 +5261,7 @@ static RT_HERE struct core__option__Option__u32 core__convert__try_from__I32Inte
     return l0;
 }
 
-static RT_HERE struct rt_tuple2__bool_u64 core__convert__try_from__I64Integer__split(uint64_t l1)
+static RT_WITHIN struct rt_tuple2__bool_u64 core__convert__try_from__I64Integer__split(uint64_t l1)
 {
     struct rt_tuple2__bool_u64 l0;
     uint8_t l2;
@@ -5484,17 +5285,15 @@ static RT_HERE struct rt_tuple2__bool_u64 core__convert__try_from__I64Integer__s
     return l0;
 }
 
-static RT_HERE struct core__option__Option__u32 core__convert__try_from__U32Integer__join(uint8_t l1, uint64_t l2)
+static RT_WITHIN struct core__option__Option__u32 core__convert__try_from__U32Integer__join(uint8_t l1, uint64_t l2)
 {
     struct core__option__Option__u32 l0;
-    uint8_t l3;
     struct core__option__Option__u32 l4;
     uint64_t l5;
     uint8_t l6;
     struct core__option__Option__u32 l7;
     uint32_t l8;
-    l3 = l1;
-    if (l3) {
+    if (l1) {
         l4.tag = UINT8_C(0);
     } else {
         l5 = (uint64_t)UINT32_C(4294967295);
@@ -5512,7 +5311,7 @@ static RT_HERE struct core__option__Option__u32 core__convert__try_from__U32Inte
     return l0;
 }
 
-static RT_HERE struct rt_tuple2__bool_u64 core__convert__try_from__U64Integer__split(uint64_t l1)
+static RT_WITHIN struct rt_tuple2__bool_u64 core__convert__try_from__U64Integer__split(uint64_t l1)
 {
     struct rt_tuple2__bool_u64 l0;
     l0.f0 = 0;
@@ -5520,35 +5319,35 @@ static RT_HERE struct rt_tuple2__bool_u64 core__convert__try_from__U64Integer__s
     return l0;
 }
 
-static RT_HERE struct rt_tuple3__Slots_u16_unit_unit core__core__slice__edits__copy_over_FnOnce__call_once__u16(struct core__slots__Slots__u16 l2, rt_slice l4)
+static RT_WITHIN struct rt_tuple3__Slots_u16_unit_unit core__core__slice__edits__copy_over_FnOnce__call_once__u16(struct core__slots__Slots__u16 l2, rt_slice l4)
 {
     struct rt_tuple3__Slots_u16_unit_unit l0;
     l0 = core__slice__edits__copy_over__u16(l2, l4);
     return l0;
 }
 
-static RT_HERE struct rt_tuple3__Slots_u64_unit_unit core__core__slice__edits__copy_over_FnOnce__call_once__u64(struct core__slots__Slots__u64 l2, rt_slice l4)
+static RT_WITHIN struct rt_tuple3__Slots_u64_unit_unit core__core__slice__edits__copy_over_FnOnce__call_once__u64(struct core__slots__Slots__u64 l2, rt_slice l4)
 {
     struct rt_tuple3__Slots_u64_unit_unit l0;
     l0 = core__slice__edits__copy_over__u64(l2, l4);
     return l0;
 }
 
-static RT_HERE struct rt_tuple3__Slots_u8_unit_unit core__core__slice__edits__copy_over_FnOnce__call_once__u8(struct core__slots__Slots__u8 l2, rt_slice l4)
+static RT_WITHIN struct rt_tuple3__Slots_u8_unit_unit core__core__slice__edits__copy_over_FnOnce__call_once__u8(struct core__slots__Slots__u8 l2, rt_slice l4)
 {
     struct rt_tuple3__Slots_u8_unit_unit l0;
     l0 = core__slice__edits__copy_over__u8(l2, l4);
     return l0;
 }
 
-static RT_HERE uint16_t core__default__U16Default__default(void)
+static RT_WITHIN uint16_t core__default__U16Default__default(void)
 {
     uint16_t l0;
     l0 = UINT16_C(0);
     return l0;
 }
 
-static RT_HERE uint64_t core__default__U64Default__default(void)
+static RT_WITHIN uint64_t core__default__U64Default__default(void)
 {
     uint64_t l0;
     l0 = UINT64_C(0);
@@ -6013,16 +5812,14 @@ static inline uint64_t core__int__usize__saturating_sub(uint64_t l1, uint64_t l2
     return l0;
 }
 
-static RT_HERE uint8_t core__iter__base__Iterator__all__Iter_u8_ref_u8_all_Self(uint8_t *l1, struct block__fn__zeros__all_Self l2)
+static RT_WITHIN uint8_t core__iter__base__Iterator__all__Iter_u8_ref_u8_all_Self(uint8_t *l1, struct block__fn__zeros__all_Self l2)
 {
     uint8_t l0;
     struct block__fn__zeros__all_Self l3;
-    uint8_t *l4;
     struct core__option__Option__ref_u8 l5;
     uint8_t *l6;
     uint8_t l7;
     uint8_t *l8;
-    uint8_t *l9;
     uint8_t l10;
     struct block__fn__zeros__all_Self l11;
     struct block__fn__zeros__all_Self l13;
@@ -6032,10 +5829,8 @@ static RT_HERE uint8_t core__iter__base__Iterator__all__Iter_u8_ref_u8_all_Self(
         l5 = core__iter__slices__IterIterator__next__u8(l6);
         switch (l5.tag) {
             case UINT8_C(1): {
-                l4 = l5.s0;
                 l8 = (uint8_t *)&l3;
-                l9 = l4;
-                l7 = block__fn__zeros__all_FnMut__call_mut(l8, l9);
+                l7 = block__fn__zeros__all_FnMut__call_mut(l8, l5.s0);
                 l10 = (uint8_t)!l7;
                 if (l10) {
                     l0 = 0;
@@ -6058,7 +5853,7 @@ end1:;
     return l0;
 }
 
-static RT_HERE uint8_t core__iter__ranges__RangeInclusive__contains__u8(uint8_t *l1, uint8_t *l2)
+static RT_WITHIN uint8_t core__iter__ranges__RangeInclusive__contains__u8(uint8_t *l1, uint8_t *l2)
 {
     uint8_t l0;
     uint8_t l3;
@@ -6086,20 +5881,16 @@ static RT_HERE uint8_t core__iter__ranges__RangeInclusive__contains__u8(uint8_t 
     return l0;
 }
 
-static RT_HERE struct core__iter__ranges__RangeInclusive__u8 core__iter__ranges__RangeInclusive__new__u8(uint8_t l1, uint8_t l2)
+static RT_WITHIN struct core__iter__ranges__RangeInclusive__u8 core__iter__ranges__RangeInclusive__new__u8(uint8_t l1, uint8_t l2)
 {
     struct core__iter__ranges__RangeInclusive__u8 l0;
-    uint8_t l3;
-    uint8_t l4;
-    l3 = l1;
-    l4 = l2;
-    l0.f0 = l3;
-    l0.f1 = l4;
+    l0.f0 = l1;
+    l0.f1 = l2;
     l0.f2 = 0;
     return l0;
 }
 
-static RT_HERE struct core__option__Option__ref_u64 core__iter__slices__IterIterator__next__u64(uint8_t *l1)
+static RT_WITHIN struct core__option__Option__ref_u64 core__iter__slices__IterIterator__next__u64(uint8_t *l1)
 {
     struct core__option__Option__ref_u64 l0;
     rt_slice l2;
@@ -6132,7 +5923,7 @@ static RT_HERE struct core__option__Option__ref_u64 core__iter__slices__IterIter
     return l0;
 }
 
-static RT_HERE struct core__option__Option__ref_u8 core__iter__slices__IterIterator__next__u8(uint8_t *l1)
+static RT_WITHIN struct core__option__Option__ref_u8 core__iter__slices__IterIterator__next__u8(uint8_t *l1)
 {
     struct core__option__Option__ref_u8 l0;
     rt_slice l2;
@@ -6165,28 +5956,28 @@ static RT_HERE struct core__option__Option__ref_u8 core__iter__slices__IterItera
     return l0;
 }
 
-static RT_HERE struct core__iter__slices__Iter__u64 core__iter__slices__slice_T__iter__u64(rt_slice l1)
+static RT_WITHIN struct core__iter__slices__Iter__u64 core__iter__slices__slice_T__iter__u64(rt_slice l1)
 {
     struct core__iter__slices__Iter__u64 l0;
     l0.f0 = l1;
     return l0;
 }
 
-static RT_HERE struct core__iter__slices__Iter__u8 core__iter__slices__slice_T__iter__u8(rt_slice l1)
+static RT_WITHIN struct core__iter__slices__Iter__u8 core__iter__slices__slice_T__iter__u8(rt_slice l1)
 {
     struct core__iter__slices__Iter__u8 l0;
     l0.f0 = l1;
     return l0;
 }
 
-static RT_HERE uint64_t core__mem__size_of_param__u8(void)
+static RT_WITHIN uint64_t core__mem__size_of_param__u8(void)
 {
     uint64_t l0;
     l0 = UINT64_C(1);
     return l0;
 }
 
-static RT_HERE struct core__ops__bounds__Bound__ref_u64 core__ops__bounds__RangeRangeBounds__end_bound__u64(uint8_t *l1)
+static RT_WITHIN struct core__ops__bounds__Bound__ref_u64 core__ops__bounds__RangeRangeBounds__end_bound__u64(uint8_t *l1)
 {
     struct core__ops__bounds__Bound__ref_u64 l0;
     uint8_t *l2;
@@ -6196,7 +5987,7 @@ static RT_HERE struct core__ops__bounds__Bound__ref_u64 core__ops__bounds__Range
     return l0;
 }
 
-static RT_HERE struct core__ops__bounds__Bound__ref_u64 core__ops__bounds__RangeRangeBounds__start_bound__u64(uint8_t *l1)
+static RT_WITHIN struct core__ops__bounds__Bound__ref_u64 core__ops__bounds__RangeRangeBounds__start_bound__u64(uint8_t *l1)
 {
     struct core__ops__bounds__Bound__ref_u64 l0;
     uint8_t *l2;
@@ -6206,7 +5997,7 @@ static RT_HERE struct core__ops__bounds__Bound__ref_u64 core__ops__bounds__Range
     return l0;
 }
 
-static RT_HERE uint8_t core__option__Option__is_none__rt_tuple2_u8_u64(uint8_t *l1)
+static RT_WITHIN uint8_t core__option__Option__is_none__rt_tuple2_u8_u64(uint8_t *l1)
 {
     uint8_t l0;
     uint8_t l2;
@@ -6224,7 +6015,7 @@ static RT_HERE uint8_t core__option__Option__is_none__rt_tuple2_u8_u64(uint8_t *
     return l0;
 }
 
-static RT_HERE uint8_t core__option__Option__is_none__u64(uint8_t *l1)
+static RT_WITHIN uint8_t core__option__Option__is_none__u64(uint8_t *l1)
 {
     uint8_t l0;
     uint8_t l2;
@@ -6242,7 +6033,7 @@ static RT_HERE uint8_t core__option__Option__is_none__u64(uint8_t *l1)
     return l0;
 }
 
-static RT_HERE uint8_t core__option__Option__is_some__Row(uint8_t *l1)
+static RT_WITHIN uint8_t core__option__Option__is_some__Row(uint8_t *l1)
 {
     uint8_t l0;
     uint8_t l2;
@@ -6260,7 +6051,7 @@ static RT_HERE uint8_t core__option__Option__is_some__Row(uint8_t *l1)
     return l0;
 }
 
-static RT_HERE uint8_t core__option__Option__is_some__u64(uint8_t *l1)
+static RT_WITHIN uint8_t core__option__Option__is_some__u64(uint8_t *l1)
 {
     uint8_t l0;
     uint8_t l2;
@@ -6278,29 +6069,22 @@ static RT_HERE uint8_t core__option__Option__is_some__u64(uint8_t *l1)
     return l0;
 }
 
-static RT_HERE struct core__option__Option__rt_tuple2_u8_u64 core__option__Option__map__u8_rt_tuple2_u8_u64_map_Self(struct core__option__Option__u8 l1, struct lexer__fn__followed__map_Self l2)
+static RT_WITHIN struct core__option__Option__rt_tuple2_u8_u64 core__option__Option__map__u8_rt_tuple2_u8_u64_map_Self(struct core__option__Option__u8 l1, struct lexer__fn__followed__map_Self l2)
 {
     struct core__option__Option__rt_tuple2_u8_u64 l0;
-    uint8_t l3;
     struct core__option__Option__rt_tuple2_u8_u64 l4;
     struct rt_tuple2__u8_u64 l5;
-    struct lexer__fn__followed__map_Self l6;
-    uint8_t l7;
-    struct lexer__fn__followed__map_Self l8;
     switch (l1.tag) {
         case UINT8_C(1): {
-            l3 = l1.s0;
-            l6 = l2;
-            l7 = l3;
-            l5 = lexer__fn__followed__map_FnOnce__call_once(l6, l7);
+            l5 = lexer__fn__followed__map_FnOnce__call_once(l2, l1.s0);
             l4.tag = UINT8_C(1);
-            l4.s0 = l5;
+            l4.s0.f0 = l5.f0;
+            l4.s0.f1 = l5.f1;
             break;
         }
         case UINT8_C(0): default: {
             l4.tag = UINT8_C(0);
-            l8 = l2;
-            core__Destruct__none__drop__map_Self(l8);
+            core__Destruct__none__drop__map_Self(l2);
             break;
         }
     }
@@ -6308,28 +6092,20 @@ static RT_HERE struct core__option__Option__rt_tuple2_u8_u64 core__option__Optio
     return l0;
 }
 
-static RT_HERE struct core__result__Result__u32_OperatorError core__option__Option__ok_or__u32_OperatorError(struct core__option__Option__u32 l1, struct operators__OperatorError l2)
+static RT_WITHIN struct core__result__Result__u32_OperatorError core__option__Option__ok_or__u32_OperatorError(struct core__option__Option__u32 l1, struct operators__OperatorError l2)
 {
     struct core__result__Result__u32_OperatorError l0;
-    uint32_t l3;
     struct core__result__Result__u32_OperatorError l4;
-    uint32_t l5;
-    struct operators__OperatorError l6;
-    struct operators__OperatorError l7;
     switch (l1.tag) {
         case UINT8_C(1): {
-            l3 = l1.s0;
-            l5 = l3;
             l4.tag = UINT8_C(0);
-            l4.s0 = l5;
-            l7 = l2;
-            core__Destruct__none__drop__OperatorError(l7);
+            l4.s0 = l1.s0;
+            core__Destruct__none__drop__OperatorError(l2);
             break;
         }
         case UINT8_C(0): default: {
-            l6 = l2;
             l4.tag = UINT8_C(1);
-            l4.s1 = l6;
+            l4.s1 = l2;
             break;
         }
     }
@@ -6337,28 +6113,20 @@ static RT_HERE struct core__result__Result__u32_OperatorError core__option__Opti
     return l0;
 }
 
-static RT_HERE struct core__result__Result__u64_Refusal core__option__Option__ok_or__u64_Refusal(struct core__option__Option__u64 l1, struct types__refusal__Refusal l2)
+static RT_WITHIN struct core__result__Result__u64_Refusal core__option__Option__ok_or__u64_Refusal(struct core__option__Option__u64 l1, struct types__refusal__Refusal l2)
 {
     struct core__result__Result__u64_Refusal l0;
-    uint64_t l3;
     struct core__result__Result__u64_Refusal l4;
-    uint64_t l5;
-    struct types__refusal__Refusal l6;
-    struct types__refusal__Refusal l7;
     switch (l1.tag) {
         case UINT8_C(1): {
-            l3 = l1.s0;
-            l5 = l3;
             l4.tag = UINT8_C(0);
-            l4.s0 = l5;
-            l7 = l2;
-            core__Destruct__none__drop__Refusal(l7);
+            l4.s0 = l1.s0;
+            core__Destruct__none__drop__Refusal(l2);
             break;
         }
         case UINT8_C(0): default: {
-            l6 = l2;
             l4.tag = UINT8_C(1);
-            l4.s1 = l6;
+            l4.s1 = l2;
             break;
         }
     }
@@ -6366,15 +6134,11 @@ static RT_HERE struct core__result__Result__u64_Refusal core__option__Option__ok
     return l0;
 }
 
-static RT_HERE uint8_t *core__option__Option__unwrap__ref_u16(struct core__option__Option__ref_u16 l1)
+static RT_WITHIN uint8_t *core__option__Option__unwrap__ref_u16(struct core__option__Option__ref_u16 l1)
 {
     uint8_t *l0;
-    uint8_t *l2;
-    uint8_t *l3;
     switch (l1.tag) {
         case UINT8_C(1): {
-            l2 = l1.s0;
-            l3 = l2;
             break;
         }
         case UINT8_C(0): default: {
@@ -6383,19 +6147,15 @@ static RT_HERE uint8_t *core__option__Option__unwrap__ref_u16(struct core__optio
             break;
         }
     }
-    l0 = l3;
+    l0 = l1.s0;
     return l0;
 }
 
-static RT_HERE uint8_t *core__option__Option__unwrap__ref_u8(struct core__option__Option__ref_u8 l1)
+static RT_WITHIN uint8_t *core__option__Option__unwrap__ref_u8(struct core__option__Option__ref_u8 l1)
 {
     uint8_t *l0;
-    uint8_t *l2;
-    uint8_t *l3;
     switch (l1.tag) {
         case UINT8_C(1): {
-            l2 = l1.s0;
-            l3 = l2;
             break;
         }
         case UINT8_C(0): default: {
@@ -6404,22 +6164,18 @@ static RT_HERE uint8_t *core__option__Option__unwrap__ref_u8(struct core__option
             break;
         }
     }
-    l0 = l3;
+    l0 = l1.s0;
     return l0;
 }
 
-static RT_HERE uint16_t core__option__Option__unwrap_or__u16(struct core__option__Option__u16 l1, uint16_t l2)
+static RT_WITHIN uint16_t core__option__Option__unwrap_or__u16(struct core__option__Option__u16 l1, uint16_t l2)
 {
     uint16_t l0;
-    uint16_t l3;
     uint16_t l4;
-    uint16_t l5;
     switch (l1.tag) {
         case UINT8_C(1): {
-            l3 = l1.s0;
-            l4 = l3;
-            l5 = l2;
-            core__Destruct__none__drop__u16(l5);
+            l4 = l1.s0;
+            core__Destruct__none__drop__u16(l2);
             break;
         }
         case UINT8_C(0): default: {
@@ -6431,18 +6187,14 @@ static RT_HERE uint16_t core__option__Option__unwrap_or__u16(struct core__option
     return l0;
 }
 
-static RT_HERE uint32_t core__option__Option__unwrap_or__u32(struct core__option__Option__u32 l1, uint32_t l2)
+static RT_WITHIN uint32_t core__option__Option__unwrap_or__u32(struct core__option__Option__u32 l1, uint32_t l2)
 {
     uint32_t l0;
-    uint32_t l3;
     uint32_t l4;
-    uint32_t l5;
     switch (l1.tag) {
         case UINT8_C(1): {
-            l3 = l1.s0;
-            l4 = l3;
-            l5 = l2;
-            core__Destruct__none__drop__u32(l5);
+            l4 = l1.s0;
+            core__Destruct__none__drop__u32(l2);
             break;
         }
         case UINT8_C(0): default: {
@@ -6454,18 +6206,14 @@ static RT_HERE uint32_t core__option__Option__unwrap_or__u32(struct core__option
     return l0;
 }
 
-static RT_HERE uint64_t core__option__Option__unwrap_or__u64(struct core__option__Option__u64 l1, uint64_t l2)
+static RT_WITHIN uint64_t core__option__Option__unwrap_or__u64(struct core__option__Option__u64 l1, uint64_t l2)
 {
     uint64_t l0;
-    uint64_t l3;
     uint64_t l4;
-    uint64_t l5;
     switch (l1.tag) {
         case UINT8_C(1): {
-            l3 = l1.s0;
-            l4 = l3;
-            l5 = l2;
-            core__Destruct__none__drop__u64(l5);
+            l4 = l1.s0;
+            core__Destruct__none__drop__u64(l2);
             break;
         }
         case UINT8_C(0): default: {
@@ -6477,18 +6225,14 @@ static RT_HERE uint64_t core__option__Option__unwrap_or__u64(struct core__option
     return l0;
 }
 
-static RT_HERE uint8_t core__option__Option__unwrap_or__u8(struct core__option__Option__u8 l1, uint8_t l2)
+static RT_WITHIN uint8_t core__option__Option__unwrap_or__u8(struct core__option__Option__u8 l1, uint8_t l2)
 {
     uint8_t l0;
-    uint8_t l3;
     uint8_t l4;
-    uint8_t l5;
     switch (l1.tag) {
         case UINT8_C(1): {
-            l3 = l1.s0;
-            l4 = l3;
-            l5 = l2;
-            core__Destruct__none__drop__u8(l5);
+            l4 = l1.s0;
+            core__Destruct__none__drop__u8(l2);
             break;
         }
         case UINT8_C(0): default: {
@@ -6500,7 +6244,7 @@ static RT_HERE uint8_t core__option__Option__unwrap_or__u8(struct core__option__
     return l0;
 }
 
-static RT_HERE struct core__option__Option__ref_u8 core__option__OptionFromResidualNoValue__from_residual__ref_u8(struct core__option__NoValue l1)
+static RT_WITHIN struct core__option__Option__ref_u8 core__option__OptionFromResidualNoValue__from_residual__ref_u8(struct core__option__NoValue l1)
 {
     struct core__option__Option__ref_u8 l0;
     (void)l1;
@@ -6508,7 +6252,7 @@ static RT_HERE struct core__option__Option__ref_u8 core__option__OptionFromResid
     return l0;
 }
 
-static RT_HERE struct core__option__Option__u64 core__option__OptionFromResidualNoValue__from_residual__u64(struct core__option__NoValue l1)
+static RT_WITHIN struct core__option__Option__u64 core__option__OptionFromResidualNoValue__from_residual__u64(struct core__option__NoValue l1)
 {
     struct core__option__Option__u64 l0;
     (void)l1;
@@ -6516,19 +6260,15 @@ static RT_HERE struct core__option__Option__u64 core__option__OptionFromResidual
     return l0;
 }
 
-static RT_HERE struct core__ops__ControlFlow__NoValue_ref_u8 core__option__OptionTry__branch__ref_u8(struct core__option__Option__ref_u8 l1)
+static RT_WITHIN struct core__ops__ControlFlow__NoValue_ref_u8 core__option__OptionTry__branch__ref_u8(struct core__option__Option__ref_u8 l1)
 {
     struct core__ops__ControlFlow__NoValue_ref_u8 l0;
-    uint8_t *l2;
     struct core__ops__ControlFlow__NoValue_ref_u8 l3;
-    uint8_t *l4;
     struct core__option__NoValue l5;
     switch (l1.tag) {
         case UINT8_C(1): {
-            l2 = l1.s0;
-            l4 = l2;
             l3.tag = UINT8_C(0);
-            l3.s0 = l4;
+            l3.s0 = l1.s0;
             break;
         }
         case UINT8_C(0): default: {
@@ -6542,21 +6282,16 @@ static RT_HERE struct core__ops__ControlFlow__NoValue_ref_u8 core__option__Optio
     return l0;
 }
 
-static RT_HERE struct core__ops__ControlFlow__NoValue_rt_tuple2_u8_u64 core__option__OptionTry__branch__rt_tuple2_u8_u64(struct core__option__Option__rt_tuple2_u8_u64 l1)
+static RT_WITHIN struct core__ops__ControlFlow__NoValue_rt_tuple2_u8_u64 core__option__OptionTry__branch__rt_tuple2_u8_u64(struct core__option__Option__rt_tuple2_u8_u64 l1)
 {
     struct core__ops__ControlFlow__NoValue_rt_tuple2_u8_u64 l0;
-    struct rt_tuple2__u8_u64 l2;
     struct core__ops__ControlFlow__NoValue_rt_tuple2_u8_u64 l3;
-    struct rt_tuple2__u8_u64 l4;
     struct core__option__NoValue l5;
     switch (l1.tag) {
         case UINT8_C(1): {
-            l2.f0 = l1.s0.f0;
-            l2.f1 = l1.s0.f1;
-            l4.f0 = l2.f0;
-            l4.f1 = l2.f1;
             l3.tag = UINT8_C(0);
-            l3.s0 = l4;
+            l3.s0.f0 = l1.s0.f0;
+            l3.s0.f1 = l1.s0.f1;
             break;
         }
         case UINT8_C(0): default: {
@@ -6570,19 +6305,15 @@ static RT_HERE struct core__ops__ControlFlow__NoValue_rt_tuple2_u8_u64 core__opt
     return l0;
 }
 
-static RT_HERE struct core__ops__ControlFlow__NoValue_u32 core__option__OptionTry__branch__u32(struct core__option__Option__u32 l1)
+static RT_WITHIN struct core__ops__ControlFlow__NoValue_u32 core__option__OptionTry__branch__u32(struct core__option__Option__u32 l1)
 {
     struct core__ops__ControlFlow__NoValue_u32 l0;
-    uint32_t l2;
     struct core__ops__ControlFlow__NoValue_u32 l3;
-    uint32_t l4;
     struct core__option__NoValue l5;
     switch (l1.tag) {
         case UINT8_C(1): {
-            l2 = l1.s0;
-            l4 = l2;
             l3.tag = UINT8_C(0);
-            l3.s0 = l4;
+            l3.s0 = l1.s0;
             break;
         }
         case UINT8_C(0): default: {
@@ -6596,19 +6327,15 @@ static RT_HERE struct core__ops__ControlFlow__NoValue_u32 core__option__OptionTr
     return l0;
 }
 
-static RT_HERE struct core__ops__ControlFlow__NoValue_u64 core__option__OptionTry__branch__u64(struct core__option__Option__u64 l1)
+static RT_WITHIN struct core__ops__ControlFlow__NoValue_u64 core__option__OptionTry__branch__u64(struct core__option__Option__u64 l1)
 {
     struct core__ops__ControlFlow__NoValue_u64 l0;
-    uint64_t l2;
     struct core__ops__ControlFlow__NoValue_u64 l3;
-    uint64_t l4;
     struct core__option__NoValue l5;
     switch (l1.tag) {
         case UINT8_C(1): {
-            l2 = l1.s0;
-            l4 = l2;
             l3.tag = UINT8_C(0);
-            l3.s0 = l4;
+            l3.s0 = l1.s0;
             break;
         }
         case UINT8_C(0): default: {
@@ -6622,19 +6349,15 @@ static RT_HERE struct core__ops__ControlFlow__NoValue_u64 core__option__OptionTr
     return l0;
 }
 
-static RT_HERE struct core__ops__ControlFlow__NoValue_u8 core__option__OptionTry__branch__u8(struct core__option__Option__u8 l1)
+static RT_WITHIN struct core__ops__ControlFlow__NoValue_u8 core__option__OptionTry__branch__u8(struct core__option__Option__u8 l1)
 {
     struct core__ops__ControlFlow__NoValue_u8 l0;
-    uint8_t l2;
     struct core__ops__ControlFlow__NoValue_u8 l3;
-    uint8_t l4;
     struct core__option__NoValue l5;
     switch (l1.tag) {
         case UINT8_C(1): {
-            l2 = l1.s0;
-            l4 = l2;
             l3.tag = UINT8_C(0);
-            l3.s0 = l4;
+            l3.s0 = l1.s0;
             break;
         }
         case UINT8_C(0): default: {
@@ -6648,17 +6371,15 @@ static RT_HERE struct core__ops__ControlFlow__NoValue_u8 core__option__OptionTry
     return l0;
 }
 
-static RT_HERE struct core__option__Option__u16 core__option__more__Option_ref_T__copied__u16(struct core__option__Option__ref_u16 l1)
+static RT_WITHIN struct core__option__Option__u16 core__option__more__Option_ref_T__copied__u16(struct core__option__Option__ref_u16 l1)
 {
     struct core__option__Option__u16 l0;
     struct core__option__Option__u16 l2;
     uint8_t *l3;
-    struct core__option__Option__ref_u16 l4;
     uint16_t l5;
     switch (l1.tag) {
         case UINT8_C(1): {
-            l4 = l1;
-            l3 = core__option__Option__unwrap__ref_u16(l4);
+            l3 = core__option__Option__unwrap__ref_u16(l1);
             l5 = (*(uint16_t *)l3);
             l2.tag = UINT8_C(1);
             l2.s0 = l5;
@@ -6673,17 +6394,15 @@ static RT_HERE struct core__option__Option__u16 core__option__more__Option_ref_T
     return l0;
 }
 
-static RT_HERE struct core__option__Option__u8 core__option__more__Option_ref_T__copied__u8(struct core__option__Option__ref_u8 l1)
+static RT_WITHIN struct core__option__Option__u8 core__option__more__Option_ref_T__copied__u8(struct core__option__Option__ref_u8 l1)
 {
     struct core__option__Option__u8 l0;
     struct core__option__Option__u8 l2;
     uint8_t *l3;
-    struct core__option__Option__ref_u8 l4;
     uint8_t l5;
     switch (l1.tag) {
         case UINT8_C(1): {
-            l4 = l1;
-            l3 = core__option__Option__unwrap__ref_u8(l4);
+            l3 = core__option__Option__unwrap__ref_u8(l1);
             l5 = (*(uint8_t *)l3);
             l2.tag = UINT8_C(1);
             l2.s0 = l5;
@@ -6698,7 +6417,7 @@ static RT_HERE struct core__option__Option__u8 core__option__more__Option_ref_T_
     return l0;
 }
 
-static RT_HERE void core__ptr__copy_drop__copy_bits__u16(uint8_t *l1, uint8_t *l2, uint64_t l3)
+static RT_WITHIN void core__ptr__copy_drop__copy_bits__u16(uint8_t *l1, uint8_t *l2, uint64_t l3)
 {
     uint64_t l4;
     uint8_t l5;
@@ -6730,7 +6449,7 @@ end1:;
     return;
 }
 
-static RT_HERE void core__ptr__copy_drop__copy_bits__u64(uint8_t *l1, uint8_t *l2, uint64_t l3)
+static RT_WITHIN void core__ptr__copy_drop__copy_bits__u64(uint8_t *l1, uint8_t *l2, uint64_t l3)
 {
     uint64_t l4;
     uint8_t l5;
@@ -6762,7 +6481,7 @@ end1:;
     return;
 }
 
-static RT_HERE void core__ptr__copy_drop__copy_bits__u8(uint8_t *l1, uint8_t *l2, uint64_t l3)
+static RT_WITHIN void core__ptr__copy_drop__copy_bits__u8(uint8_t *l1, uint8_t *l2, uint64_t l3)
 {
     uint64_t l4;
     uint8_t l5;
@@ -6794,19 +6513,14 @@ end1:;
     return;
 }
 
-static RT_HERE struct core__option__Option__u32 core__result__Result__ok__u32_TryFromIntError(struct core__result__Result__u32_TryFromIntError l1)
+static RT_WITHIN struct core__option__Option__u32 core__result__Result__ok__u32_TryFromIntError(struct core__result__Result__u32_TryFromIntError l1)
 {
     struct core__option__Option__u32 l0;
-    uint32_t l2;
     struct core__option__Option__u32 l3;
-    uint32_t l4;
-    struct core__num__TryFromIntError l5;
     switch (l1.tag) {
         case UINT8_C(0): {
-            l2 = l1.s0;
-            l4 = l2;
             l3.tag = UINT8_C(1);
-            l3.s0 = l4;
+            l3.s0 = l1.s0;
             l0 = l3;
             return l0;
             break;
@@ -6819,8 +6533,7 @@ static RT_HERE struct core__option__Option__u32 core__result__Result__ok__u32_Tr
     l0 = l3;
     switch (l1.tag) {
         case UINT8_C(1): {
-            l5 = l1.s1;
-            core__Destruct__none__drop__TryFromIntError(l5);
+            core__Destruct__none__drop__TryFromIntError(l1.s1);
             break;
         }
         case UINT8_C(0): default: {
@@ -6830,41 +6543,27 @@ static RT_HERE struct core__option__Option__u32 core__result__Result__ok__u32_Tr
     return l0;
 }
 
-static RT_HERE struct core__ops__ControlFlow__ErrResidual_Refusal_Loaded core__result__ResultTry__branch__Loaded_Refusal(struct core__result__Result__Loaded_Refusal l1)
+static RT_WITHIN struct core__ops__ControlFlow__ErrResidual_Refusal_Loaded core__result__ResultTry__branch__Loaded_Refusal(struct core__result__Result__Loaded_Refusal l1)
 {
     struct core__ops__ControlFlow__ErrResidual_Refusal_Loaded l0;
-    struct load__Loaded l2;
-    struct types__refusal__Refusal l3;
     struct core__ops__ControlFlow__ErrResidual_Refusal_Loaded l4;
-    struct load__Loaded l5;
-    struct types__refusal__Refusal l6;
     struct core__result__ErrResidual__Refusal l7;
     switch (l1.tag) {
         case UINT8_C(0): {
-            l2.f0 = l1.s0.f0;
-            l2.f1 = l1.s0.f1;
-            l2.f2 = l1.s0.f2;
-            l2.f3 = l1.s0.f3;
-            l2.f4 = l1.s0.f4;
-            l2.f5 = l1.s0.f5;
-            l2.f6 = l1.s0.f6;
-            l5.f0 = l2.f0;
-            l5.f1 = l2.f1;
-            l5.f2 = l2.f2;
-            l5.f3 = l2.f3;
-            l5.f4 = l2.f4;
-            l5.f5 = l2.f5;
-            l5.f6 = l2.f6;
             l4.tag = UINT8_C(0);
-            l4.s0 = l5;
+            l4.s0.f0 = l1.s0.f0;
+            l4.s0.f1 = l1.s0.f1;
+            l4.s0.f2 = l1.s0.f2;
+            l4.s0.f3 = l1.s0.f3;
+            l4.s0.f4 = l1.s0.f4;
+            l4.s0.f5 = l1.s0.f5;
+            l4.s0.f6 = l1.s0.f6;
             break;
         }
         case UINT8_C(1): default: {
-            l3 = l1.s1;
-            l6 = l3;
-            l7.f0 = l6;
+            l7.f0 = l1.s1;
             l4.tag = UINT8_C(1);
-            l4.s1 = l7;
+            l4.s1.f0 = l7.f0;
             break;
         }
     }
@@ -6872,43 +6571,28 @@ static RT_HERE struct core__ops__ControlFlow__ErrResidual_Refusal_Loaded core__r
     return l0;
 }
 
-static RT_HERE struct core__ops__ControlFlow__ErrResidual_Refusal_Seat core__result__ResultTry__branch__Seat_Refusal(struct core__result__Result__Seat_Refusal l1)
+static RT_WITHIN struct core__ops__ControlFlow__ErrResidual_Refusal_Seat core__result__ResultTry__branch__Seat_Refusal(struct core__result__Result__Seat_Refusal l1)
 {
     struct core__ops__ControlFlow__ErrResidual_Refusal_Seat l0;
-    struct seating__Seat l2;
-    struct types__refusal__Refusal l3;
     struct core__ops__ControlFlow__ErrResidual_Refusal_Seat l4;
-    struct seating__Seat l5;
-    struct types__refusal__Refusal l6;
     struct core__result__ErrResidual__Refusal l7;
     switch (l1.tag) {
         case UINT8_C(0): {
-            l2.f0 = l1.s0.f0;
-            l2.f1.f0 = l1.s0.f1.f0;
-            l2.f1.f1 = l1.s0.f1.f1;
-            l2.f1.f2 = l1.s0.f1.f2;
-            l2.f1.f3 = l1.s0.f1.f3;
-            l2.f1.f4 = l1.s0.f1.f4;
-            l2.f1.f5 = l1.s0.f1.f5;
-            l2.f1.f6 = l1.s0.f1.f6;
-            l5.f0 = l2.f0;
-            l5.f1.f0 = l2.f1.f0;
-            l5.f1.f1 = l2.f1.f1;
-            l5.f1.f2 = l2.f1.f2;
-            l5.f1.f3 = l2.f1.f3;
-            l5.f1.f4 = l2.f1.f4;
-            l5.f1.f5 = l2.f1.f5;
-            l5.f1.f6 = l2.f1.f6;
             l4.tag = UINT8_C(0);
-            l4.s0 = l5;
+            l4.s0.f0 = l1.s0.f0;
+            l4.s0.f1.f0 = l1.s0.f1.f0;
+            l4.s0.f1.f1 = l1.s0.f1.f1;
+            l4.s0.f1.f2 = l1.s0.f1.f2;
+            l4.s0.f1.f3 = l1.s0.f1.f3;
+            l4.s0.f1.f4 = l1.s0.f1.f4;
+            l4.s0.f1.f5 = l1.s0.f1.f5;
+            l4.s0.f1.f6 = l1.s0.f1.f6;
             break;
         }
         case UINT8_C(1): default: {
-            l3 = l1.s1;
-            l6 = l3;
-            l7.f0 = l6;
+            l7.f0 = l1.s1;
             l4.tag = UINT8_C(1);
-            l4.s1 = l7;
+            l4.s1.f0 = l7.f0;
             break;
         }
     }
@@ -6916,35 +6600,24 @@ static RT_HERE struct core__ops__ControlFlow__ErrResidual_Refusal_Seat core__res
     return l0;
 }
 
-static RT_HERE struct core__ops__ControlFlow__ErrResidual_Refusal_count_images_Counts core__result__ResultTry__branch__count_images_Counts_Refusal(struct core__result__Result__count_images_Counts_Refusal l1)
+static RT_WITHIN struct core__ops__ControlFlow__ErrResidual_Refusal_count_images_Counts core__result__ResultTry__branch__count_images_Counts_Refusal(struct core__result__Result__count_images_Counts_Refusal l1)
 {
     struct core__ops__ControlFlow__ErrResidual_Refusal_count_images_Counts l0;
-    struct count_images__Counts l2;
-    struct types__refusal__Refusal l3;
     struct core__ops__ControlFlow__ErrResidual_Refusal_count_images_Counts l4;
-    struct count_images__Counts l5;
-    struct types__refusal__Refusal l6;
     struct core__result__ErrResidual__Refusal l7;
     switch (l1.tag) {
         case UINT8_C(0): {
-            l2.f0 = l1.s0.f0;
-            l2.f1 = l1.s0.f1;
-            l2.f2 = l1.s0.f2;
-            l2.f3 = l1.s0.f3;
-            l5.f0 = l2.f0;
-            l5.f1 = l2.f1;
-            l5.f2 = l2.f2;
-            l5.f3 = l2.f3;
             l4.tag = UINT8_C(0);
-            l4.s0 = l5;
+            l4.s0.f0 = l1.s0.f0;
+            l4.s0.f1 = l1.s0.f1;
+            l4.s0.f2 = l1.s0.f2;
+            l4.s0.f3 = l1.s0.f3;
             break;
         }
         case UINT8_C(1): default: {
-            l3 = l1.s1;
-            l6 = l3;
-            l7.f0 = l6;
+            l7.f0 = l1.s1;
             l4.tag = UINT8_C(1);
-            l4.s1 = l7;
+            l4.s1.f0 = l7.f0;
             break;
         }
     }
@@ -6952,41 +6625,27 @@ static RT_HERE struct core__ops__ControlFlow__ErrResidual_Refusal_count_images_C
     return l0;
 }
 
-static RT_HERE struct core__ops__ControlFlow__ErrResidual_Refusal_rt_tuple2_u64_Done core__result__ResultTry__branch__rt_tuple2_u64_Done_Refusal(struct core__result__Result__rt_tuple2_u64_Done_Refusal l1)
+static RT_WITHIN struct core__ops__ControlFlow__ErrResidual_Refusal_rt_tuple2_u64_Done core__result__ResultTry__branch__rt_tuple2_u64_Done_Refusal(struct core__result__Result__rt_tuple2_u64_Done_Refusal l1)
 {
     struct core__ops__ControlFlow__ErrResidual_Refusal_rt_tuple2_u64_Done l0;
-    struct rt_tuple2__u64_Done l2;
-    struct types__refusal__Refusal l3;
     struct core__ops__ControlFlow__ErrResidual_Refusal_rt_tuple2_u64_Done l4;
-    struct rt_tuple2__u64_Done l5;
-    struct types__refusal__Refusal l6;
     struct core__result__ErrResidual__Refusal l7;
     switch (l1.tag) {
         case UINT8_C(0): {
-            l2.f0 = l1.s0.f0;
-            l2.f1.f0 = l1.s0.f1.f0;
-            l2.f1.f1 = l1.s0.f1.f1;
-            l2.f1.f2 = l1.s0.f1.f2;
-            l2.f1.f3 = l1.s0.f1.f3;
-            l2.f1.f4.f0 = l1.s0.f1.f4.f0;
-            l2.f1.f4.f1 = l1.s0.f1.f4.f1;
-            l5.f0 = l2.f0;
-            l5.f1.f0 = l2.f1.f0;
-            l5.f1.f1 = l2.f1.f1;
-            l5.f1.f2 = l2.f1.f2;
-            l5.f1.f3 = l2.f1.f3;
-            l5.f1.f4.f0 = l2.f1.f4.f0;
-            l5.f1.f4.f1 = l2.f1.f4.f1;
             l4.tag = UINT8_C(0);
-            l4.s0 = l5;
+            l4.s0.f0 = l1.s0.f0;
+            l4.s0.f1.f0 = l1.s0.f1.f0;
+            l4.s0.f1.f1 = l1.s0.f1.f1;
+            l4.s0.f1.f2 = l1.s0.f1.f2;
+            l4.s0.f1.f3 = l1.s0.f1.f3;
+            l4.s0.f1.f4.f0 = l1.s0.f1.f4.f0;
+            l4.s0.f1.f4.f1 = l1.s0.f1.f4.f1;
             break;
         }
         case UINT8_C(1): default: {
-            l3 = l1.s1;
-            l6 = l3;
-            l7.f0 = l6;
+            l7.f0 = l1.s1;
             l4.tag = UINT8_C(1);
-            l4.s1 = l7;
+            l4.s1.f0 = l7.f0;
             break;
         }
     }
@@ -6994,37 +6653,25 @@ static RT_HERE struct core__ops__ControlFlow__ErrResidual_Refusal_rt_tuple2_u64_
     return l0;
 }
 
-static RT_HERE struct core__ops__ControlFlow__ErrResidual_Refusal_rt_tuple2_u64_Facts core__result__ResultTry__branch__rt_tuple2_u64_Facts_Refusal(struct core__result__Result__rt_tuple2_u64_Facts_Refusal l1)
+static RT_WITHIN struct core__ops__ControlFlow__ErrResidual_Refusal_rt_tuple2_u64_Facts core__result__ResultTry__branch__rt_tuple2_u64_Facts_Refusal(struct core__result__Result__rt_tuple2_u64_Facts_Refusal l1)
 {
     struct core__ops__ControlFlow__ErrResidual_Refusal_rt_tuple2_u64_Facts l0;
-    struct rt_tuple2__u64_Facts l2;
-    struct types__refusal__Refusal l3;
     struct core__ops__ControlFlow__ErrResidual_Refusal_rt_tuple2_u64_Facts l4;
-    struct rt_tuple2__u64_Facts l5;
-    struct types__refusal__Refusal l6;
     struct core__result__ErrResidual__Refusal l7;
     switch (l1.tag) {
         case UINT8_C(0): {
-            l2.f0 = l1.s0.f0;
-            l2.f1.f0 = l1.s0.f1.f0;
-            l2.f1.f1 = l1.s0.f1.f1;
-            l2.f1.f2 = l1.s0.f1.f2;
-            l2.f1.f3 = l1.s0.f1.f3;
-            l5.f0 = l2.f0;
-            l5.f1.f0 = l2.f1.f0;
-            l5.f1.f1 = l2.f1.f1;
-            l5.f1.f2 = l2.f1.f2;
-            l5.f1.f3 = l2.f1.f3;
             l4.tag = UINT8_C(0);
-            l4.s0 = l5;
+            l4.s0.f0 = l1.s0.f0;
+            l4.s0.f1.f0 = l1.s0.f1.f0;
+            l4.s0.f1.f1 = l1.s0.f1.f1;
+            l4.s0.f1.f2 = l1.s0.f1.f2;
+            l4.s0.f1.f3 = l1.s0.f1.f3;
             break;
         }
         case UINT8_C(1): default: {
-            l3 = l1.s1;
-            l6 = l3;
-            l7.f0 = l6;
+            l7.f0 = l1.s1;
             l4.tag = UINT8_C(1);
-            l4.s1 = l7;
+            l4.s1.f0 = l7.f0;
             break;
         }
     }
@@ -7032,33 +6679,23 @@ static RT_HERE struct core__ops__ControlFlow__ErrResidual_Refusal_rt_tuple2_u64_
     return l0;
 }
 
-static RT_HERE struct core__ops__ControlFlow__ErrResidual_Refusal_rt_tuple2__d7d566f0 core__result__ResultTry__branch__rt_tuple2_u64_Planned_Refusal(struct core__result__Result__rt_tuple2_u64_Planned_Refusal l1)
+static RT_WITHIN struct core__ops__ControlFlow__ErrResidual_Refusal_rt_tuple2__d7d566f0 core__result__ResultTry__branch__rt_tuple2_u64_Planned_Refusal(struct core__result__Result__rt_tuple2_u64_Planned_Refusal l1)
 {
     struct core__ops__ControlFlow__ErrResidual_Refusal_rt_tuple2__d7d566f0 l0;
-    struct rt_tuple2__u64_Planned l2;
-    struct types__refusal__Refusal l3;
     struct core__ops__ControlFlow__ErrResidual_Refusal_rt_tuple2__d7d566f0 l4;
-    struct rt_tuple2__u64_Planned l5;
-    struct types__refusal__Refusal l6;
     struct core__result__ErrResidual__Refusal l7;
     switch (l1.tag) {
         case UINT8_C(0): {
-            l2.f0 = l1.s0.f0;
-            l2.f1.f0 = l1.s0.f1.f0;
-            l2.f1.f1 = l1.s0.f1.f1;
-            l5.f0 = l2.f0;
-            l5.f1.f0 = l2.f1.f0;
-            l5.f1.f1 = l2.f1.f1;
             l4.tag = UINT8_C(0);
-            l4.s0 = l5;
+            l4.s0.f0 = l1.s0.f0;
+            l4.s0.f1.f0 = l1.s0.f1.f0;
+            l4.s0.f1.f1 = l1.s0.f1.f1;
             break;
         }
         case UINT8_C(1): default: {
-            l3 = l1.s1;
-            l6 = l3;
-            l7.f0 = l6;
+            l7.f0 = l1.s1;
             l4.tag = UINT8_C(1);
-            l4.s1 = l7;
+            l4.s1.f0 = l7.f0;
             break;
         }
     }
@@ -7066,41 +6703,27 @@ static RT_HERE struct core__ops__ControlFlow__ErrResidual_Refusal_rt_tuple2__d7d
     return l0;
 }
 
-static RT_HERE struct core__ops__ControlFlow__ErrResidual_Refusal_rt_tuple2__a4800219 core__result__ResultTry__branch__rt_tuple2_u64_Summary_Refusal(struct core__result__Result__rt_tuple2_u64_Summary_Refusal l1)
+static RT_WITHIN struct core__ops__ControlFlow__ErrResidual_Refusal_rt_tuple2__a4800219 core__result__ResultTry__branch__rt_tuple2_u64_Summary_Refusal(struct core__result__Result__rt_tuple2_u64_Summary_Refusal l1)
 {
     struct core__ops__ControlFlow__ErrResidual_Refusal_rt_tuple2__a4800219 l0;
-    struct rt_tuple2__u64_Summary l2;
-    struct types__refusal__Refusal l3;
     struct core__ops__ControlFlow__ErrResidual_Refusal_rt_tuple2__a4800219 l4;
-    struct rt_tuple2__u64_Summary l5;
-    struct types__refusal__Refusal l6;
     struct core__result__ErrResidual__Refusal l7;
     switch (l1.tag) {
         case UINT8_C(0): {
-            l2.f0 = l1.s0.f0;
-            l2.f1.f0 = l1.s0.f1.f0;
-            l2.f1.f1 = l1.s0.f1.f1;
-            l2.f1.f2 = l1.s0.f1.f2;
-            l2.f1.f3 = l1.s0.f1.f3;
-            l2.f1.f4 = l1.s0.f1.f4;
-            l2.f1.f5 = l1.s0.f1.f5;
-            l5.f0 = l2.f0;
-            l5.f1.f0 = l2.f1.f0;
-            l5.f1.f1 = l2.f1.f1;
-            l5.f1.f2 = l2.f1.f2;
-            l5.f1.f3 = l2.f1.f3;
-            l5.f1.f4 = l2.f1.f4;
-            l5.f1.f5 = l2.f1.f5;
             l4.tag = UINT8_C(0);
-            l4.s0 = l5;
+            l4.s0.f0 = l1.s0.f0;
+            l4.s0.f1.f0 = l1.s0.f1.f0;
+            l4.s0.f1.f1 = l1.s0.f1.f1;
+            l4.s0.f1.f2 = l1.s0.f1.f2;
+            l4.s0.f1.f3 = l1.s0.f1.f3;
+            l4.s0.f1.f4 = l1.s0.f1.f4;
+            l4.s0.f1.f5 = l1.s0.f1.f5;
             break;
         }
         case UINT8_C(1): default: {
-            l3 = l1.s1;
-            l6 = l3;
-            l7.f0 = l6;
+            l7.f0 = l1.s1;
             l4.tag = UINT8_C(1);
-            l4.s1 = l7;
+            l4.s1.f0 = l7.f0;
             break;
         }
     }
@@ -7108,39 +6731,26 @@ static RT_HERE struct core__ops__ControlFlow__ErrResidual_Refusal_rt_tuple2__a48
     return l0;
 }
 
-static RT_HERE struct core__ops__ControlFlow__ErrResidual_Refusal_rt_tuple2__da2d7d9c core__result__ResultTry__branch__rt_tuple2_u64_Totals_Refusal(struct core__result__Result__rt_tuple2_u64_Totals_Refusal l1)
+static RT_WITHIN struct core__ops__ControlFlow__ErrResidual_Refusal_rt_tuple2__da2d7d9c core__result__ResultTry__branch__rt_tuple2_u64_Totals_Refusal(struct core__result__Result__rt_tuple2_u64_Totals_Refusal l1)
 {
     struct core__ops__ControlFlow__ErrResidual_Refusal_rt_tuple2__da2d7d9c l0;
-    struct rt_tuple2__u64_Totals l2;
-    struct types__refusal__Refusal l3;
     struct core__ops__ControlFlow__ErrResidual_Refusal_rt_tuple2__da2d7d9c l4;
-    struct rt_tuple2__u64_Totals l5;
-    struct types__refusal__Refusal l6;
     struct core__result__ErrResidual__Refusal l7;
     switch (l1.tag) {
         case UINT8_C(0): {
-            l2.f0 = l1.s0.f0;
-            l2.f1.f0 = l1.s0.f1.f0;
-            l2.f1.f1 = l1.s0.f1.f1;
-            l2.f1.f2 = l1.s0.f1.f2;
-            l2.f1.f3 = l1.s0.f1.f3;
-            l2.f1.f4 = l1.s0.f1.f4;
-            l5.f0 = l2.f0;
-            l5.f1.f0 = l2.f1.f0;
-            l5.f1.f1 = l2.f1.f1;
-            l5.f1.f2 = l2.f1.f2;
-            l5.f1.f3 = l2.f1.f3;
-            l5.f1.f4 = l2.f1.f4;
             l4.tag = UINT8_C(0);
-            l4.s0 = l5;
+            l4.s0.f0 = l1.s0.f0;
+            l4.s0.f1.f0 = l1.s0.f1.f0;
+            l4.s0.f1.f1 = l1.s0.f1.f1;
+            l4.s0.f1.f2 = l1.s0.f1.f2;
+            l4.s0.f1.f3 = l1.s0.f1.f3;
+            l4.s0.f1.f4 = l1.s0.f1.f4;
             break;
         }
         case UINT8_C(1): default: {
-            l3 = l1.s1;
-            l6 = l3;
-            l7.f0 = l6;
+            l7.f0 = l1.s1;
             l4.tag = UINT8_C(1);
-            l4.s1 = l7;
+            l4.s1.f0 = l7.f0;
             break;
         }
     }
@@ -7148,31 +6758,22 @@ static RT_HERE struct core__ops__ControlFlow__ErrResidual_Refusal_rt_tuple2__da2
     return l0;
 }
 
-static RT_HERE struct core__ops__ControlFlow__ErrResidual_Refusal_rt_tuple2_u64_u8 core__result__ResultTry__branch__rt_tuple2_u64_u8_Refusal(struct core__result__Result__rt_tuple2_u64_u8_Refusal l1)
+static RT_WITHIN struct core__ops__ControlFlow__ErrResidual_Refusal_rt_tuple2_u64_u8 core__result__ResultTry__branch__rt_tuple2_u64_u8_Refusal(struct core__result__Result__rt_tuple2_u64_u8_Refusal l1)
 {
     struct core__ops__ControlFlow__ErrResidual_Refusal_rt_tuple2_u64_u8 l0;
-    struct rt_tuple2__u64_u8 l2;
-    struct types__refusal__Refusal l3;
     struct core__ops__ControlFlow__ErrResidual_Refusal_rt_tuple2_u64_u8 l4;
-    struct rt_tuple2__u64_u8 l5;
-    struct types__refusal__Refusal l6;
     struct core__result__ErrResidual__Refusal l7;
     switch (l1.tag) {
         case UINT8_C(0): {
-            l2.f0 = l1.s0.f0;
-            l2.f1 = l1.s0.f1;
-            l5.f0 = l2.f0;
-            l5.f1 = l2.f1;
             l4.tag = UINT8_C(0);
-            l4.s0 = l5;
+            l4.s0.f0 = l1.s0.f0;
+            l4.s0.f1 = l1.s0.f1;
             break;
         }
         case UINT8_C(1): default: {
-            l3 = l1.s1;
-            l6 = l3;
-            l7.f0 = l6;
+            l7.f0 = l1.s1;
             l4.tag = UINT8_C(1);
-            l4.s1 = l7;
+            l4.s1.f0 = l7.f0;
             break;
         }
     }
@@ -7180,31 +6781,22 @@ static RT_HERE struct core__ops__ControlFlow__ErrResidual_Refusal_rt_tuple2_u64_
     return l0;
 }
 
-static RT_HERE struct core__ops__ControlFlow__ErrResidual_Refusal_rt_tuple2_u8_u64 core__result__ResultTry__branch__rt_tuple2_u8_u64_Refusal(struct core__result__Result__rt_tuple2_u8_u64_Refusal l1)
+static RT_WITHIN struct core__ops__ControlFlow__ErrResidual_Refusal_rt_tuple2_u8_u64 core__result__ResultTry__branch__rt_tuple2_u8_u64_Refusal(struct core__result__Result__rt_tuple2_u8_u64_Refusal l1)
 {
     struct core__ops__ControlFlow__ErrResidual_Refusal_rt_tuple2_u8_u64 l0;
-    struct rt_tuple2__u8_u64 l2;
-    struct types__refusal__Refusal l3;
     struct core__ops__ControlFlow__ErrResidual_Refusal_rt_tuple2_u8_u64 l4;
-    struct rt_tuple2__u8_u64 l5;
-    struct types__refusal__Refusal l6;
     struct core__result__ErrResidual__Refusal l7;
     switch (l1.tag) {
         case UINT8_C(0): {
-            l2.f0 = l1.s0.f0;
-            l2.f1 = l1.s0.f1;
-            l5.f0 = l2.f0;
-            l5.f1 = l2.f1;
             l4.tag = UINT8_C(0);
-            l4.s0 = l5;
+            l4.s0.f0 = l1.s0.f0;
+            l4.s0.f1 = l1.s0.f1;
             break;
         }
         case UINT8_C(1): default: {
-            l3 = l1.s1;
-            l6 = l3;
-            l7.f0 = l6;
+            l7.f0 = l1.s1;
             l4.tag = UINT8_C(1);
-            l4.s1 = l7;
+            l4.s1.f0 = l7.f0;
             break;
         }
     }
@@ -7212,29 +6804,21 @@ static RT_HERE struct core__ops__ControlFlow__ErrResidual_Refusal_rt_tuple2_u8_u
     return l0;
 }
 
-static RT_HERE struct core__ops__ControlFlow__ErrResidual_NoProgram_u64 core__result__ResultTry__branch__u64_NoProgram(struct core__result__Result__u64_NoProgram l1)
+static RT_WITHIN struct core__ops__ControlFlow__ErrResidual_NoProgram_u64 core__result__ResultTry__branch__u64_NoProgram(struct core__result__Result__u64_NoProgram l1)
 {
     struct core__ops__ControlFlow__ErrResidual_NoProgram_u64 l0;
-    uint64_t l2;
-    struct uses__NoProgram l3;
     struct core__ops__ControlFlow__ErrResidual_NoProgram_u64 l4;
-    uint64_t l5;
-    struct uses__NoProgram l6;
     struct core__result__ErrResidual__NoProgram l7;
     switch (l1.tag) {
         case UINT8_C(0): {
-            l2 = l1.s0;
-            l5 = l2;
             l4.tag = UINT8_C(0);
-            l4.s0 = l5;
+            l4.s0 = l1.s0;
             break;
         }
         case UINT8_C(1): default: {
-            l3.f0 = l1.s1.f0;
-            l6.f0 = l3.f0;
-            l7.f0 = l6;
+            l7.f0.f0 = l1.s1.f0;
             l4.tag = UINT8_C(1);
-            l4.s1 = l7;
+            l4.s1.f0.f0 = l7.f0.f0;
             break;
         }
     }
@@ -7242,29 +6826,21 @@ static RT_HERE struct core__ops__ControlFlow__ErrResidual_NoProgram_u64 core__re
     return l0;
 }
 
-static RT_HERE struct core__ops__ControlFlow__ErrResidual_OperatorError_u64 core__result__ResultTry__branch__u64_OperatorError(struct core__result__Result__u64_OperatorError l1)
+static RT_WITHIN struct core__ops__ControlFlow__ErrResidual_OperatorError_u64 core__result__ResultTry__branch__u64_OperatorError(struct core__result__Result__u64_OperatorError l1)
 {
     struct core__ops__ControlFlow__ErrResidual_OperatorError_u64 l0;
-    uint64_t l2;
-    struct operators__OperatorError l3;
     struct core__ops__ControlFlow__ErrResidual_OperatorError_u64 l4;
-    uint64_t l5;
-    struct operators__OperatorError l6;
     struct core__result__ErrResidual__OperatorError l7;
     switch (l1.tag) {
         case UINT8_C(0): {
-            l2 = l1.s0;
-            l5 = l2;
             l4.tag = UINT8_C(0);
-            l4.s0 = l5;
+            l4.s0 = l1.s0;
             break;
         }
         case UINT8_C(1): default: {
-            l3 = l1.s1;
-            l6 = l3;
-            l7.f0 = l6;
+            l7.f0 = l1.s1;
             l4.tag = UINT8_C(1);
-            l4.s1 = l7;
+            l4.s1.f0 = l7.f0;
             break;
         }
     }
@@ -7272,29 +6848,21 @@ static RT_HERE struct core__ops__ControlFlow__ErrResidual_OperatorError_u64 core
     return l0;
 }
 
-static RT_HERE struct core__ops__ControlFlow__ErrResidual_Refusal_u64 core__result__ResultTry__branch__u64_Refusal(struct core__result__Result__u64_Refusal l1)
+static RT_WITHIN struct core__ops__ControlFlow__ErrResidual_Refusal_u64 core__result__ResultTry__branch__u64_Refusal(struct core__result__Result__u64_Refusal l1)
 {
     struct core__ops__ControlFlow__ErrResidual_Refusal_u64 l0;
-    uint64_t l2;
-    struct types__refusal__Refusal l3;
     struct core__ops__ControlFlow__ErrResidual_Refusal_u64 l4;
-    uint64_t l5;
-    struct types__refusal__Refusal l6;
     struct core__result__ErrResidual__Refusal l7;
     switch (l1.tag) {
         case UINT8_C(0): {
-            l2 = l1.s0;
-            l5 = l2;
             l4.tag = UINT8_C(0);
-            l4.s0 = l5;
+            l4.s0 = l1.s0;
             break;
         }
         case UINT8_C(1): default: {
-            l3 = l1.s1;
-            l6 = l3;
-            l7.f0 = l6;
+            l7.f0 = l1.s1;
             l4.tag = UINT8_C(1);
-            l4.s1 = l7;
+            l4.s1.f0 = l7.f0;
             break;
         }
     }
@@ -7302,12 +6870,10 @@ static RT_HERE struct core__ops__ControlFlow__ErrResidual_Refusal_u64 core__resu
     return l0;
 }
 
-static RT_HERE struct core__ops__ControlFlow__ErrResidual_Refusal_unit core__result__ResultTry__branch__unit_Refusal(struct core__result__Result__unit_Refusal l1)
+static RT_WITHIN struct core__ops__ControlFlow__ErrResidual_Refusal_unit core__result__ResultTry__branch__unit_Refusal(struct core__result__Result__unit_Refusal l1)
 {
     struct core__ops__ControlFlow__ErrResidual_Refusal_unit l0;
-    struct types__refusal__Refusal l3;
     struct core__ops__ControlFlow__ErrResidual_Refusal_unit l4;
-    struct types__refusal__Refusal l6;
     struct core__result__ErrResidual__Refusal l7;
     switch (l1.tag) {
         case UINT8_C(0): {
@@ -7315,11 +6881,9 @@ static RT_HERE struct core__ops__ControlFlow__ErrResidual_Refusal_unit core__res
             break;
         }
         case UINT8_C(1): default: {
-            l3 = l1.s0;
-            l6 = l3;
-            l7.f0 = l6;
+            l7.f0 = l1.s0;
             l4.tag = UINT8_C(1);
-            l4.s0 = l7;
+            l4.s0.f0 = l7.f0;
             break;
         }
     }
@@ -7327,7 +6891,7 @@ static RT_HERE struct core__ops__ControlFlow__ErrResidual_Refusal_unit core__res
     return l0;
 }
 
-static RT_HERE struct rt_tuple3__Slots_u16_unit_unit core__slice__edits__copy_over__u16(struct core__slots__Slots__u16 l1, rt_slice l3)
+static RT_WITHIN struct rt_tuple3__Slots_u16_unit_unit core__slice__edits__copy_over__u16(struct core__slots__Slots__u16 l1, rt_slice l3)
 {
     struct rt_tuple3__Slots_u16_unit_unit l0;
     struct core__slots__Slots__u16 l4;
@@ -7339,11 +6903,12 @@ static RT_HERE struct rt_tuple3__Slots_u16_unit_unit core__slice__edits__copy_ov
     core__slots__Slots__copy_in__u16(l6, UINT64_C(0), l3);
     l7.f0 = l4.f0;
     l7.f1 = l4.f1;
-    l0.f0 = l7;
+    l0.f0.f0 = l7.f0;
+    l0.f0.f1 = l7.f1;
     return l0;
 }
 
-static RT_HERE struct rt_tuple3__Slots_u64_unit_unit core__slice__edits__copy_over__u64(struct core__slots__Slots__u64 l1, rt_slice l3)
+static RT_WITHIN struct rt_tuple3__Slots_u64_unit_unit core__slice__edits__copy_over__u64(struct core__slots__Slots__u64 l1, rt_slice l3)
 {
     struct rt_tuple3__Slots_u64_unit_unit l0;
     struct core__slots__Slots__u64 l4;
@@ -7355,11 +6920,12 @@ static RT_HERE struct rt_tuple3__Slots_u64_unit_unit core__slice__edits__copy_ov
     core__slots__Slots__copy_in__u64(l6, UINT64_C(0), l3);
     l7.f0 = l4.f0;
     l7.f1 = l4.f1;
-    l0.f0 = l7;
+    l0.f0.f0 = l7.f0;
+    l0.f0.f1 = l7.f1;
     return l0;
 }
 
-static RT_HERE struct rt_tuple3__Slots_u8_unit_unit core__slice__edits__copy_over__u8(struct core__slots__Slots__u8 l1, rt_slice l3)
+static RT_WITHIN struct rt_tuple3__Slots_u8_unit_unit core__slice__edits__copy_over__u8(struct core__slots__Slots__u8 l1, rt_slice l3)
 {
     struct rt_tuple3__Slots_u8_unit_unit l0;
     struct core__slots__Slots__u8 l4;
@@ -7371,11 +6937,12 @@ static RT_HERE struct rt_tuple3__Slots_u8_unit_unit core__slice__edits__copy_ove
     core__slots__Slots__copy_in__u8(l6, UINT64_C(0), l3);
     l7.f0 = l4.f0;
     l7.f1 = l4.f1;
-    l0.f0 = l7;
+    l0.f0.f0 = l7.f0;
+    l0.f0.f1 = l7.f1;
     return l0;
 }
 
-static RT_HERE void core__slice__edits__slice_T__copy_from_slice__u16(rt_slice l1, rt_slice l2)
+static RT_WITHIN void core__slice__edits__slice_T__copy_from_slice__u16(rt_slice l1, rt_slice l2)
 {
     uint8_t *l5;
     rt_slice l6;
@@ -7388,7 +6955,7 @@ static RT_HERE void core__slice__edits__slice_T__copy_from_slice__u16(rt_slice l
     return;
 }
 
-static RT_HERE void core__slice__edits__slice_T__copy_from_slice__u64(rt_slice l1, rt_slice l2)
+static RT_WITHIN void core__slice__edits__slice_T__copy_from_slice__u64(rt_slice l1, rt_slice l2)
 {
     uint8_t *l5;
     rt_slice l6;
@@ -7401,7 +6968,7 @@ static RT_HERE void core__slice__edits__slice_T__copy_from_slice__u64(rt_slice l
     return;
 }
 
-static RT_HERE void core__slice__edits__slice_T__copy_from_slice__u8(rt_slice l1, rt_slice l2)
+static RT_WITHIN void core__slice__edits__slice_T__copy_from_slice__u8(rt_slice l1, rt_slice l2)
 {
     uint8_t *l5;
     rt_slice l6;
@@ -7414,10 +6981,9 @@ static RT_HERE void core__slice__edits__slice_T__copy_from_slice__u8(rt_slice l1
     return;
 }
 
-static RT_HERE void core__slice__edits__slice_T__fill__u8(rt_slice l1, uint8_t l2)
+static RT_WITHIN void core__slice__edits__slice_T__fill__u8(rt_slice l1, uint8_t l2)
 {
     uint8_t l3;
-    uint64_t l4;
     uint64_t l5;
     uint8_t l6;
     uint64_t l7;
@@ -7433,8 +6999,7 @@ static RT_HERE void core__slice__edits__slice_T__fill__u8(rt_slice l1, uint8_t l
     uint8_t l18;
     uint8_t l19;
     l3 = l2;
-    l4 = l1.n;
-    l6 = (uint8_t)(l4 == UINT64_C(0));
+    l6 = (uint8_t)(l1.n == UINT64_C(0));
     if (l6) {
         l16 = l3;
         core__Destruct__none__drop__u8(l16);
@@ -7442,7 +7007,7 @@ static RT_HERE void core__slice__edits__slice_T__fill__u8(rt_slice l1, uint8_t l
     }
     l5 = UINT64_C(0);
     for (;;) {
-        l7 = (uint64_t)((uint64_t)l4 - (uint64_t)UINT64_C(1));
+        l7 = (uint64_t)((uint64_t)l1.n - (uint64_t)UINT64_C(1));
         l8 = (uint8_t)(l5 < l7);
         if (l8) {
         } else {
@@ -7459,7 +7024,7 @@ static RT_HERE void core__slice__edits__slice_T__fill__u8(rt_slice l1, uint8_t l
     }
 end1:;
     l12 = l3;
-    l13 = (uint64_t)((uint64_t)l4 - (uint64_t)UINT64_C(1));
+    l13 = (uint64_t)((uint64_t)l1.n - (uint64_t)UINT64_C(1));
     l14 = (uint64_t)((uint64_t)l13 * (uint64_t)UINT64_C(1));
     l15 = l1.p + (size_t)l14;
     l19 = (*(uint8_t *)l15);
@@ -7468,17 +7033,15 @@ end1:;
     return;
 }
 
-static RT_HERE struct core__option__Option__ref_u16 core__slice__index__UsizeSliceIndexRefSlice__pick__u16(uint64_t l1, rt_slice l2)
+static RT_WITHIN struct core__option__Option__ref_u16 core__slice__index__UsizeSliceIndexRefSlice__pick__u16(uint64_t l1, rt_slice l2)
 {
     struct core__option__Option__ref_u16 l0;
-    uint64_t l3;
     uint8_t l4;
     struct core__option__Option__ref_u16 l5;
     uint64_t l6;
     uint8_t *l7;
     uint8_t *l8;
-    l3 = l2.n;
-    l4 = (uint8_t)(l1 < l3);
+    l4 = (uint8_t)(l1 < l2.n);
     if (l4) {
         l6 = (uint64_t)((uint64_t)l1 * (uint64_t)UINT64_C(2));
         l7 = l2.p + (size_t)l6;
@@ -7492,17 +7055,15 @@ static RT_HERE struct core__option__Option__ref_u16 core__slice__index__UsizeSli
     return l0;
 }
 
-static RT_HERE struct core__option__Option__ref_u8 core__slice__index__UsizeSliceIndexRefSlice__pick__u8(uint64_t l1, rt_slice l2)
+static RT_WITHIN struct core__option__Option__ref_u8 core__slice__index__UsizeSliceIndexRefSlice__pick__u8(uint64_t l1, rt_slice l2)
 {
     struct core__option__Option__ref_u8 l0;
-    uint64_t l3;
     uint8_t l4;
     struct core__option__Option__ref_u8 l5;
     uint64_t l6;
     uint8_t *l7;
     uint8_t *l8;
-    l3 = l2.n;
-    l4 = (uint8_t)(l1 < l3);
+    l4 = (uint8_t)(l1 < l2.n);
     if (l4) {
         l6 = (uint64_t)((uint64_t)l1 * (uint64_t)UINT64_C(1));
         l7 = l2.p + (size_t)l6;
@@ -7516,16 +7077,12 @@ static RT_HERE struct core__option__Option__ref_u8 core__slice__index__UsizeSlic
     return l0;
 }
 
-static RT_HERE struct core__iter__ranges__Range__u64 core__slice__ranges__range__Range_u64(struct core__iter__ranges__Range__u64 l1, struct core__iter__ranges__RangeTo__u64 l2)
+static RT_WITHIN struct core__iter__ranges__Range__u64 core__slice__ranges__range__Range_u64(struct core__iter__ranges__Range__u64 l1, struct core__iter__ranges__RangeTo__u64 l2)
 {
     struct core__iter__ranges__Range__u64 l0;
     struct core__iter__ranges__Range__u64 l3;
     uint64_t l4;
-    uint8_t *l5;
-    uint8_t *l6;
     uint64_t l7;
-    uint8_t *l8;
-    uint8_t *l9;
     struct core__ops__bounds__Bound__ref_u64 l10;
     uint8_t *l11;
     uint64_t l12;
@@ -7541,13 +7098,11 @@ static RT_HERE struct core__iter__ranges__Range__u64 core__slice__ranges__range_
     l10 = core__ops__bounds__RangeRangeBounds__start_bound__u64(l11);
     switch (l10.tag) {
         case UINT8_C(0): {
-            l5 = l10.s0;
-            l12 = (*(uint64_t *)l5);
+            l12 = (*(uint64_t *)l10.s0);
             break;
         }
         case UINT8_C(1): {
-            l6 = l10.s0;
-            l13 = (*(uint64_t *)l6);
+            l13 = (*(uint64_t *)l10.s0);
             l12 = (uint64_t)((uint64_t)l13 + (uint64_t)UINT64_C(1));
             break;
         }
@@ -7561,14 +7116,12 @@ static RT_HERE struct core__iter__ranges__Range__u64 core__slice__ranges__range_
     l14 = core__ops__bounds__RangeRangeBounds__end_bound__u64(l15);
     switch (l14.tag) {
         case UINT8_C(0): {
-            l8 = l14.s0;
-            l17 = (*(uint64_t *)l8);
+            l17 = (*(uint64_t *)l14.s0);
             l16 = (uint64_t)((uint64_t)l17 + (uint64_t)UINT64_C(1));
             break;
         }
         case UINT8_C(1): {
-            l9 = l14.s0;
-            l16 = (*(uint64_t *)l9);
+            l16 = (*(uint64_t *)l14.s0);
             break;
         }
         case UINT8_C(2): default: {
@@ -7585,7 +7138,7 @@ static RT_HERE struct core__iter__ranges__Range__u64 core__slice__ranges__range_
     return l0;
 }
 
-static RT_HERE uint8_t core__slice__scan__any_by_groups__ElementMismatch_u8(uint8_t *l1, uint64_t l2, uint64_t l3)
+static RT_WITHIN uint8_t core__slice__scan__any_by_groups__ElementMismatch_u8(uint8_t *l1, uint64_t l2, uint64_t l3)
 {
     uint8_t l0;
     uint64_t l4;
@@ -7643,7 +7196,7 @@ static RT_HERE uint8_t core__slice__scan__any_by_groups__ElementMismatch_u8(uint
     return l0;
 }
 
-static RT_HERE uint8_t core__slice__scan__any_by_one__ElementMismatch_u8(uint8_t *l1, uint64_t l2)
+static RT_WITHIN uint8_t core__slice__scan__any_by_one__ElementMismatch_u8(uint8_t *l1, uint64_t l2)
 {
     uint8_t l0;
     uint64_t l3;
@@ -7652,7 +7205,7 @@ static RT_HERE uint8_t core__slice__scan__any_by_one__ElementMismatch_u8(uint8_t
     return l0;
 }
 
-static RT_HERE uint8_t core__slice__scan__any_in_ends__ElementMismatch_u8(uint8_t *l1, uint64_t l2, uint64_t l3)
+static RT_WITHIN uint8_t core__slice__scan__any_in_ends__ElementMismatch_u8(uint8_t *l1, uint64_t l2, uint64_t l3)
 {
     uint8_t l0;
     uint8_t l4;
@@ -7665,7 +7218,7 @@ static RT_HERE uint8_t core__slice__scan__any_in_ends__ElementMismatch_u8(uint8_
     return l0;
 }
 
-static RT_HERE uint8_t core__slice__scan__any_in_quarters__ElementMismatch_u8(uint8_t *l1, uint64_t l2, uint64_t l3)
+static RT_WITHIN uint8_t core__slice__scan__any_in_quarters__ElementMismatch_u8(uint8_t *l1, uint64_t l2, uint64_t l3)
 {
     uint8_t l0;
     uint64_t l4;
@@ -7692,7 +7245,7 @@ static RT_HERE uint8_t core__slice__scan__any_in_quarters__ElementMismatch_u8(ui
     return l0;
 }
 
-static RT_HERE uint8_t core__slice__scan__any_in_run__ElementMismatch_u8(uint8_t *l1, uint64_t l2, uint64_t l3)
+static RT_WITHIN uint8_t core__slice__scan__any_in_run__ElementMismatch_u8(uint8_t *l1, uint64_t l2, uint64_t l3)
 {
     uint8_t l0;
     uint8_t l4;
@@ -7717,7 +7270,7 @@ end1:;
     return l0;
 }
 
-static RT_HERE uint8_t core__slice__scan__any_in_three__ElementMismatch_u8(uint8_t *l1, uint64_t l2)
+static RT_WITHIN uint8_t core__slice__scan__any_in_three__ElementMismatch_u8(uint8_t *l1, uint64_t l2)
 {
     uint8_t l0;
     uint8_t l3;
@@ -7736,7 +7289,7 @@ static RT_HERE uint8_t core__slice__scan__any_in_three__ElementMismatch_u8(uint8
     return l0;
 }
 
-static RT_HERE uint8_t core__slice__scan__any_in_turn__ElementMismatch_u8(uint8_t *l1, uint64_t l2)
+static RT_WITHIN uint8_t core__slice__scan__any_in_turn__ElementMismatch_u8(uint8_t *l1, uint64_t l2)
 {
     uint8_t l0;
     uint64_t l3;
@@ -7769,7 +7322,7 @@ end1:;
     return l0;
 }
 
-static RT_HERE uint64_t core__slice__scan__first_by_one__ElementMismatch_u8(uint8_t *l1, uint64_t l2, uint64_t l3)
+static RT_WITHIN uint64_t core__slice__scan__first_by_one__ElementMismatch_u8(uint8_t *l1, uint64_t l2, uint64_t l3)
 {
     uint64_t l0;
     uint64_t l4;
@@ -7794,7 +7347,7 @@ end1:;
     return l0;
 }
 
-static RT_HERE uint64_t core__slice__scan__group__u8(void)
+static RT_WITHIN uint64_t core__slice__scan__group__u8(void)
 {
     uint64_t l0;
     uint64_t l1;
@@ -7823,7 +7376,7 @@ static RT_HERE uint64_t core__slice__scan__group__u8(void)
     return l0;
 }
 
-static RT_HERE uint64_t core__slice__scan__skip_groups__ElementMismatch_u8(uint8_t *l1, uint64_t l2, uint64_t l3, uint64_t l4)
+static RT_WITHIN uint64_t core__slice__scan__skip_groups__ElementMismatch_u8(uint8_t *l1, uint64_t l2, uint64_t l3, uint64_t l4)
 {
     uint64_t l0;
     uint64_t l5;
@@ -7860,173 +7413,137 @@ end1:;
     return l0;
 }
 
-static RT_HERE struct core__option__Option__ref_u16 core__slice__slice_T__get__u16_u64_ref_u16(rt_slice l1, uint64_t l2)
+static RT_WITHIN struct core__option__Option__ref_u16 core__slice__slice_T__get__u16_u64_ref_u16(rt_slice l1, uint64_t l2)
 {
     struct core__option__Option__ref_u16 l0;
-    uint64_t l3;
-    l3 = l2;
-    l0 = core__slice__index__UsizeSliceIndexRefSlice__pick__u16(l3, l1);
+    l0 = core__slice__index__UsizeSliceIndexRefSlice__pick__u16(l2, l1);
     return l0;
 }
 
-static RT_HERE struct core__option__Option__ref_u8 core__slice__slice_T__get__u8_u64_ref_u8(rt_slice l1, uint64_t l2)
+static RT_WITHIN struct core__option__Option__ref_u8 core__slice__slice_T__get__u8_u64_ref_u8(rt_slice l1, uint64_t l2)
 {
     struct core__option__Option__ref_u8 l0;
-    uint64_t l3;
-    l3 = l2;
-    l0 = core__slice__index__UsizeSliceIndexRefSlice__pick__u8(l3, l1);
+    l0 = core__slice__index__UsizeSliceIndexRefSlice__pick__u8(l2, l1);
     return l0;
 }
 
-static RT_HERE uint8_t core__slice__slice_T__is_empty__u64(rt_slice l1)
+static RT_WITHIN uint8_t core__slice__slice_T__is_empty__u64(rt_slice l1)
 {
     uint8_t l0;
-    uint64_t l2;
-    l2 = l1.n;
-    l0 = (uint8_t)(l2 == UINT64_C(0));
+    l0 = (uint8_t)(l1.n == UINT64_C(0));
     return l0;
 }
 
-static RT_HERE uint8_t core__slice__slice_T__is_empty__u8(rt_slice l1)
+static RT_WITHIN uint8_t core__slice__slice_T__is_empty__u8(rt_slice l1)
 {
     uint8_t l0;
-    uint64_t l2;
-    l2 = l1.n;
-    l0 = (uint8_t)(l2 == UINT64_C(0));
+    l0 = (uint8_t)(l1.n == UINT64_C(0));
     return l0;
 }
 
-static RT_HERE void core__slots__Slots__copy_in__u16(uint8_t *l1, uint64_t l2, rt_slice l3)
+static RT_WITHIN void core__slots__Slots__copy_in__u16(uint8_t *l1, uint64_t l2, rt_slice l3)
 {
     uint8_t *l5;
     uint8_t *l6;
     uint64_t l7;
     uint8_t *l8;
-    uint64_t l9;
     l5 = (uint8_t *)&(*(uint16_t *)l3.p);
     l6 = (*(struct core__slots__Slots__u16 *)l1).f0;
     l7 = (uint64_t)((uint64_t)l2 * (uint64_t)UINT64_C(2));
     l8 = l6 + (size_t)l7;
-    l9 = l3.n;
-    core__ptr__copy_drop__copy_bits__u16(l5, l8, l9);
+    core__ptr__copy_drop__copy_bits__u16(l5, l8, l3.n);
     return;
 }
 
-static RT_HERE void core__slots__Slots__copy_in__u64(uint8_t *l1, uint64_t l2, rt_slice l3)
+static RT_WITHIN void core__slots__Slots__copy_in__u64(uint8_t *l1, uint64_t l2, rt_slice l3)
 {
     uint8_t *l5;
     uint8_t *l6;
     uint64_t l7;
     uint8_t *l8;
-    uint64_t l9;
     l5 = (uint8_t *)&(*(uint64_t *)l3.p);
     l6 = (*(struct core__slots__Slots__u64 *)l1).f0;
     l7 = (uint64_t)((uint64_t)l2 * (uint64_t)UINT64_C(8));
     l8 = l6 + (size_t)l7;
-    l9 = l3.n;
-    core__ptr__copy_drop__copy_bits__u64(l5, l8, l9);
+    core__ptr__copy_drop__copy_bits__u64(l5, l8, l3.n);
     return;
 }
 
-static RT_HERE void core__slots__Slots__copy_in__u8(uint8_t *l1, uint64_t l2, rt_slice l3)
+static RT_WITHIN void core__slots__Slots__copy_in__u8(uint8_t *l1, uint64_t l2, rt_slice l3)
 {
     uint8_t *l5;
     uint8_t *l6;
     uint64_t l7;
     uint8_t *l8;
-    uint64_t l9;
     l5 = (uint8_t *)&(*(uint8_t *)l3.p);
     l6 = (*(struct core__slots__Slots__u8 *)l1).f0;
     l7 = (uint64_t)((uint64_t)l2 * (uint64_t)UINT64_C(1));
     l8 = l6 + (size_t)l7;
-    l9 = l3.n;
-    core__ptr__copy_drop__copy_bits__u8(l5, l8, l9);
+    core__ptr__copy_drop__copy_bits__u8(l5, l8, l3.n);
     return;
 }
 
-static RT_HERE void core__slots__lends__with_slots__u16_unit_slice_u16_unit_unit(rt_slice l1, uint8_t *l2, rt_slice l3)
+static RT_WITHIN void core__slots__lends__with_slots__u16_unit_slice_u16_unit_unit(rt_slice l1, uint8_t *l2, rt_slice l3)
 {
-    uint64_t l5;
     uint8_t *l6;
     struct core__slots__Slots__u16 l14;
-    rt_slice l16;
     (void)l2;
-    l5 = l1.n;
     l6 = (uint8_t *)&(*(uint16_t *)l1.p);
     l14.f0 = l6;
-    l14.f1 = l5;
-    l16 = l3;
-    (void)core__core__slice__edits__copy_over_FnOnce__call_once__u16(l14, l16);
+    l14.f1 = l1.n;
+    (void)core__core__slice__edits__copy_over_FnOnce__call_once__u16(l14, l3);
     return;
 }
 
-static RT_HERE void core__slots__lends__with_slots__u64_unit_slice_u64_unit_unit(rt_slice l1, uint8_t *l2, rt_slice l3)
+static RT_WITHIN void core__slots__lends__with_slots__u64_unit_slice_u64_unit_unit(rt_slice l1, uint8_t *l2, rt_slice l3)
 {
-    uint64_t l5;
     uint8_t *l6;
     struct core__slots__Slots__u64 l14;
-    rt_slice l16;
     (void)l2;
-    l5 = l1.n;
     l6 = (uint8_t *)&(*(uint64_t *)l1.p);
     l14.f0 = l6;
-    l14.f1 = l5;
-    l16 = l3;
-    (void)core__core__slice__edits__copy_over_FnOnce__call_once__u64(l14, l16);
+    l14.f1 = l1.n;
+    (void)core__core__slice__edits__copy_over_FnOnce__call_once__u64(l14, l3);
     return;
 }
 
-static RT_HERE void core__slots__lends__with_slots__u8_unit_slice_u8_unit_unit(rt_slice l1, uint8_t *l2, rt_slice l3)
+static RT_WITHIN void core__slots__lends__with_slots__u8_unit_slice_u8_unit_unit(rt_slice l1, uint8_t *l2, rt_slice l3)
 {
-    uint64_t l5;
     uint8_t *l6;
     struct core__slots__Slots__u8 l14;
-    rt_slice l16;
     (void)l2;
-    l5 = l1.n;
     l6 = (uint8_t *)&(*(uint8_t *)l1.p);
     l14.f0 = l6;
-    l14.f1 = l5;
-    l16 = l3;
-    (void)core__core__slice__edits__copy_over_FnOnce__call_once__u8(l14, l16);
+    l14.f1 = l1.n;
+    (void)core__core__slice__edits__copy_over_FnOnce__call_once__u8(l14, l3);
     return;
 }
 
-static RT_HERE void core__Destruct__none__drop__TakeWhile_Iter_u8_digits_t_2927e43b(struct core__iter__closures__TakeWhile__Iter_u8_digits_take_while_Self l1)
+static RT_WITHIN void core__Destruct__none__drop__TakeWhile_Iter_u8_digits_t_2927e43b(struct core__iter__closures__TakeWhile__Iter_u8_digits_take_while_Self l1)
 {
     (void)l1;
     return;
 }
 
-static RT_HERE void core__Destruct__none__drop__TakeWhile_Iter_u8_names_ta_e5f448fb(struct core__iter__closures__TakeWhile__Iter_u8_names_take_while_Self l1)
+static RT_WITHIN void core__Destruct__none__drop__TakeWhile_Iter_u8_names_ta_e5f448fb(struct core__iter__closures__TakeWhile__Iter_u8_names_take_while_Self l1)
 {
     (void)l1;
     return;
 }
 
-static RT_HERE struct core__result__Result__u32_TryFromIntError core__convert__try_from__AnyTryFrom__try_from__u64_u32_ecc00421(uint64_t l1)
+static RT_WITHIN struct core__result__Result__u32_TryFromIntError core__convert__try_from__AnyTryFrom__try_from__u64_u32_ecc00421(uint64_t l1)
 {
     struct core__result__Result__u32_TryFromIntError l0;
-    uint8_t l2;
-    uint64_t l3;
-    uint32_t l4;
     struct rt_tuple2__bool_u64 l5;
-    uint64_t l6;
     struct core__option__Option__u32 l7;
     struct core__result__Result__u32_TryFromIntError l8;
-    uint32_t l9;
     struct core__num__TryFromIntError l10;
-    l6 = l1;
-    l5 = core__convert__try_from__U64Integer__split(l6);
-    l2 = l5.f0;
-    l3 = l5.f1;
-    l7 = core__convert__try_from__U32Integer__join(l2, l3);
+    l5 = core__convert__try_from__U64Integer__split(l1);
+    l7 = core__convert__try_from__U32Integer__join(l5.f0, l5.f1);
     switch (l7.tag) {
         case UINT8_C(1): {
-            l4 = l7.s0;
-            l9 = l4;
             l8.tag = UINT8_C(0);
-            l8.s0 = l9;
+            l8.s0 = l7.s0;
             break;
         }
         case UINT8_C(0): default: {
@@ -8040,14 +7557,13 @@ static RT_HERE struct core__result__Result__u32_TryFromIntError core__convert__t
     return l0;
 }
 
-static RT_HERE uint64_t core__iter__base__Iterator__count__TakeWhile_Iter_u8_d_9e11d280(struct core__iter__closures__TakeWhile__Iter_u8_digits_take_while_Self l1)
+static RT_WITHIN uint64_t core__iter__base__Iterator__count__TakeWhile_Iter_u8_d_9e11d280(struct core__iter__closures__TakeWhile__Iter_u8_digits_take_while_Self l1)
 {
     uint64_t l0;
     struct core__iter__closures__TakeWhile__Iter_u8_digits_take_while_Self l2;
     uint64_t l3;
     struct core__option__Option__ref_u8 l4;
     uint8_t *l5;
-    uint8_t *l6;
     struct core__iter__closures__TakeWhile__Iter_u8_digits_take_while_Self l8;
     l2.f0.f0 = l1.f0.f0;
     l2.f1 = l1.f1;
@@ -8068,8 +7584,7 @@ static RT_HERE uint64_t core__iter__base__Iterator__count__TakeWhile_Iter_u8_d_9
         }
         switch (l4.tag) {
             case UINT8_C(1): {
-                l6 = l4.s0;
-                core__Destruct__none__drop__ref_u8(l6);
+                core__Destruct__none__drop__ref_u8(l4.s0);
                 break;
             }
             case UINT8_C(0): default: {
@@ -8086,14 +7601,13 @@ end1:;
     return l0;
 }
 
-static RT_HERE uint64_t core__iter__base__Iterator__count__TakeWhile_Iter_u8_n_4eee487b(struct core__iter__closures__TakeWhile__Iter_u8_names_take_while_Self l1)
+static RT_WITHIN uint64_t core__iter__base__Iterator__count__TakeWhile_Iter_u8_n_4eee487b(struct core__iter__closures__TakeWhile__Iter_u8_names_take_while_Self l1)
 {
     uint64_t l0;
     struct core__iter__closures__TakeWhile__Iter_u8_names_take_while_Self l2;
     uint64_t l3;
     struct core__option__Option__ref_u8 l4;
     uint8_t *l5;
-    uint8_t *l6;
     struct core__iter__closures__TakeWhile__Iter_u8_names_take_while_Self l8;
     l2.f0.f0 = l1.f0.f0;
     l2.f1 = l1.f1;
@@ -8114,8 +7628,7 @@ static RT_HERE uint64_t core__iter__base__Iterator__count__TakeWhile_Iter_u8_n_4
         }
         switch (l4.tag) {
             case UINT8_C(1): {
-                l6 = l4.s0;
-                core__Destruct__none__drop__ref_u8(l6);
+                core__Destruct__none__drop__ref_u8(l4.s0);
                 break;
             }
             case UINT8_C(0): default: {
@@ -8132,17 +7645,15 @@ end1:;
     return l0;
 }
 
-static RT_HERE struct core__option__Option__u64 core__iter__base__Iterator__position__Iter_u64_ref_u64_86bdc99e(uint8_t *l1, struct resolve__names__fn__lookup__position_Self__slice_u8_ref_u64 l2)
+static RT_WITHIN struct core__option__Option__u64 core__iter__base__Iterator__position__Iter_u64_ref_u64_86bdc99e(uint8_t *l1, struct resolve__names__fn__lookup__position_Self__slice_u8_ref_u64 l2)
 {
     struct core__option__Option__u64 l0;
     struct resolve__names__fn__lookup__position_Self__slice_u8_ref_u64 l3;
     uint64_t l4;
-    uint8_t *l5;
     struct core__option__Option__ref_u64 l6;
     uint8_t *l7;
     uint8_t l8;
     uint8_t *l9;
-    uint8_t *l10;
     struct resolve__names__fn__lookup__position_Self__slice_u8_ref_u64 l11;
     struct resolve__names__fn__lookup__position_Self__slice_u8_ref_u64 l13;
     l3.f0 = l2.f0;
@@ -8153,10 +7664,8 @@ static RT_HERE struct core__option__Option__u64 core__iter__base__Iterator__posi
         l6 = core__iter__slices__IterIterator__next__u64(l7);
         switch (l6.tag) {
             case UINT8_C(1): {
-                l5 = l6.s0;
                 l9 = (uint8_t *)&l3;
-                l10 = l5;
-                l8 = resolve__names__fn__lookup__position_FnMut__call_mut(l9, l10);
+                l8 = resolve__names__fn__lookup__position_FnMut__call_mut(l9, l6.s0);
                 if (l8) {
                     l0.tag = UINT8_C(1);
                     l0.s0 = l4;
@@ -8182,43 +7691,32 @@ end1:;
     return l0;
 }
 
-static RT_HERE struct core__iter__closures__TakeWhile__Iter_u8_names_take_while_Self core__iter__base__Iterator__take_while__Iter_u8_ref_u8_a9fc4690(struct core__iter__slices__Iter__u8 l1, struct lexer__bytes__fn__names__take_while_Self l2)
+static RT_WITHIN struct core__iter__closures__TakeWhile__Iter_u8_names_take_while_Self core__iter__base__Iterator__take_while__Iter_u8_ref_u8_a9fc4690(struct core__iter__slices__Iter__u8 l1, struct lexer__bytes__fn__names__take_while_Self l2)
 {
     struct core__iter__closures__TakeWhile__Iter_u8_names_take_while_Self l0;
-    struct core__iter__slices__Iter__u8 l3;
-    struct lexer__bytes__fn__names__take_while_Self l4;
-    l3.f0 = l1.f0;
-    l4 = l2;
-    l0.f0 = l3;
+    l0.f0.f0 = l1.f0;
     l0.f1 = 0;
-    l0.f2 = l4;
+    l0.f2 = l2;
     return l0;
 }
 
-static RT_HERE struct core__iter__closures__TakeWhile__Iter_u8_digits_take_while_Self core__iter__base__Iterator__take_while__Iter_u8_ref_u8_de663524(struct core__iter__slices__Iter__u8 l1, struct lexer__bytes__fn__digits__take_while_Self l2)
+static RT_WITHIN struct core__iter__closures__TakeWhile__Iter_u8_digits_take_while_Self core__iter__base__Iterator__take_while__Iter_u8_ref_u8_de663524(struct core__iter__slices__Iter__u8 l1, struct lexer__bytes__fn__digits__take_while_Self l2)
 {
     struct core__iter__closures__TakeWhile__Iter_u8_digits_take_while_Self l0;
-    struct core__iter__slices__Iter__u8 l3;
-    struct lexer__bytes__fn__digits__take_while_Self l4;
-    l3.f0 = l1.f0;
-    l4 = l2;
-    l0.f0 = l3;
+    l0.f0.f0 = l1.f0;
     l0.f1 = 0;
-    l0.f2 = l4;
+    l0.f2 = l2;
     return l0;
 }
 
-static RT_HERE struct core__option__Option__ref_u8 core__iter__closures__TakeWhileIterator__next__Iter_u8_7c5d0d01(uint8_t *l1)
+static RT_WITHIN struct core__option__Option__ref_u8 core__iter__closures__TakeWhileIterator__next__Iter_u8_7c5d0d01(uint8_t *l1)
 {
     struct core__option__Option__ref_u8 l0;
     uint8_t *l2;
-    uint8_t *l3;
-    struct core__option__NoValue l4;
     uint8_t l5;
     struct core__ops__ControlFlow__NoValue_ref_u8 l6;
     struct core__option__Option__ref_u8 l7;
     uint8_t *l8;
-    uint8_t *l9;
     uint8_t l10;
     uint8_t *l11;
     uint8_t *l12;
@@ -8235,18 +7733,15 @@ static RT_HERE struct core__option__Option__ref_u8 core__iter__closures__TakeWhi
     l6 = core__option__OptionTry__branch__ref_u8(l7);
     switch (l6.tag) {
         case UINT8_C(0): {
-            l3 = l6.s0;
-            l9 = l3;
             break;
         }
         case UINT8_C(1): default: {
-            l4 = l6.s1;
-            l0 = core__option__OptionFromResidualNoValue__from_residual__ref_u8(l4);
+            l0 = core__option__OptionFromResidualNoValue__from_residual__ref_u8(l6.s1);
             return l0;
             break;
         }
     }
-    l2 = l9;
+    l2 = l6.s0;
     l11 = (uint8_t *)&(*(struct core__iter__closures__TakeWhile__Iter_u8_digits_take_while_Self *)l1).f2;
     l12 = (uint8_t *)&l2;
     l10 = lexer__bytes__fn__digits__take_while_FnMut__call_mut(l11, l12);
@@ -8264,17 +7759,14 @@ static RT_HERE struct core__option__Option__ref_u8 core__iter__closures__TakeWhi
     return l0;
 }
 
-static RT_HERE struct core__option__Option__ref_u8 core__iter__closures__TakeWhileIterator__next__Iter_u8_bad0302d(uint8_t *l1)
+static RT_WITHIN struct core__option__Option__ref_u8 core__iter__closures__TakeWhileIterator__next__Iter_u8_bad0302d(uint8_t *l1)
 {
     struct core__option__Option__ref_u8 l0;
     uint8_t *l2;
-    uint8_t *l3;
-    struct core__option__NoValue l4;
     uint8_t l5;
     struct core__ops__ControlFlow__NoValue_ref_u8 l6;
     struct core__option__Option__ref_u8 l7;
     uint8_t *l8;
-    uint8_t *l9;
     uint8_t l10;
     uint8_t *l11;
     uint8_t *l12;
@@ -8291,18 +7783,15 @@ static RT_HERE struct core__option__Option__ref_u8 core__iter__closures__TakeWhi
     l6 = core__option__OptionTry__branch__ref_u8(l7);
     switch (l6.tag) {
         case UINT8_C(0): {
-            l3 = l6.s0;
-            l9 = l3;
             break;
         }
         case UINT8_C(1): default: {
-            l4 = l6.s1;
-            l0 = core__option__OptionFromResidualNoValue__from_residual__ref_u8(l4);
+            l0 = core__option__OptionFromResidualNoValue__from_residual__ref_u8(l6.s1);
             return l0;
             break;
         }
     }
-    l2 = l9;
+    l2 = l6.s0;
     l11 = (uint8_t *)&(*(struct core__iter__closures__TakeWhile__Iter_u8_names_take_while_Self *)l1).f2;
     l12 = (uint8_t *)&l2;
     l10 = lexer__bytes__fn__names__take_while_FnMut__call_mut(l11, l12);
@@ -8320,7 +7809,7 @@ static RT_HERE struct core__option__Option__ref_u8 core__iter__closures__TakeWhi
     return l0;
 }
 
-static RT_HERE struct core__option__Option__rt_tuple2_u8_u64 core__option__OptionFromResidualNoValue__from_residual_e4dc67fa(struct core__option__NoValue l1)
+static RT_WITHIN struct core__option__Option__rt_tuple2_u8_u64 core__option__OptionFromResidualNoValue__from_residual_e4dc67fa(struct core__option__NoValue l1)
 {
     struct core__option__Option__rt_tuple2_u8_u64 l0;
     (void)l1;
@@ -8328,7 +7817,7 @@ static RT_HERE struct core__option__Option__rt_tuple2_u8_u64 core__option__Optio
     return l0;
 }
 
-static RT_HERE struct core__option__Option__rt_tuple2_uses_Scope_Option_u8 core__option__OptionFromResidualNoValue__from_residual_e7cc27ad(struct core__option__NoValue l1)
+static RT_WITHIN struct core__option__Option__rt_tuple2_uses_Scope_Option_u8 core__option__OptionFromResidualNoValue__from_residual_e7cc27ad(struct core__option__NoValue l1)
 {
     struct core__option__Option__rt_tuple2_uses_Scope_Option_u8 l0;
     (void)l1;
@@ -8336,251 +7825,204 @@ static RT_HERE struct core__option__Option__rt_tuple2_uses_Scope_Option_u8 core_
     return l0;
 }
 
-static RT_HERE struct core__result__Result__u32_Refusal core__result__ResultFromResidualErrResidual__from_resi_07f82ab4(struct core__result__ErrResidual__NoProgram l1)
+static RT_WITHIN struct core__result__Result__u32_Refusal core__result__ResultFromResidualErrResidual__from_resi_07f82ab4(struct core__result__ErrResidual__NoProgram l1)
 {
     struct core__result__Result__u32_Refusal l0;
     struct types__refusal__Refusal l2;
-    struct uses__NoProgram l3;
-    l3.f0 = l1.f0.f0;
-    l2 = uses__RefusalFromNoProgram__from(l3);
+    l2 = uses__RefusalFromNoProgram__from(l1.f0);
     l0.tag = UINT8_C(1);
     l0.s1 = l2;
     return l0;
 }
 
-static RT_HERE struct core__result__Result__u32_OperatorError core__result__ResultFromResidualErrResidual__from_resi_153600e2(struct core__result__ErrResidual__OperatorError l1)
+static RT_WITHIN struct core__result__Result__u32_OperatorError core__result__ResultFromResidualErrResidual__from_resi_153600e2(struct core__result__ErrResidual__OperatorError l1)
 {
     struct core__result__Result__u32_OperatorError l0;
     struct operators__OperatorError l2;
-    struct operators__OperatorError l3;
-    l3 = l1.f0;
-    l2 = core__convert__AnyFrom__from__OperatorError(l3);
+    l2 = core__convert__AnyFrom__from__OperatorError(l1.f0);
     l0.tag = UINT8_C(1);
     l0.s1 = l2;
     return l0;
 }
 
-static RT_HERE struct core__result__Result__rt_tuple2_u64_u8_Refusal core__result__ResultFromResidualErrResidual__from_resi_199ff778(struct core__result__ErrResidual__Refusal l1)
+static RT_WITHIN struct core__result__Result__rt_tuple2_u64_u8_Refusal core__result__ResultFromResidualErrResidual__from_resi_199ff778(struct core__result__ErrResidual__Refusal l1)
 {
     struct core__result__Result__rt_tuple2_u64_u8_Refusal l0;
     struct types__refusal__Refusal l2;
-    struct types__refusal__Refusal l3;
-    l3 = l1.f0;
-    l2 = core__convert__AnyFrom__from__Refusal(l3);
+    l2 = core__convert__AnyFrom__from__Refusal(l1.f0);
     l0.tag = UINT8_C(1);
     l0.s1 = l2;
     return l0;
 }
 
-static RT_HERE struct core__result__Result__rt_tuple3_u64_u8_Judged_Refusal core__result__ResultFromResidualErrResidual__from_resi_29dc3d9d(struct core__result__ErrResidual__Refusal l1)
+static RT_WITHIN struct core__result__Result__rt_tuple3_u64_u8_Judged_Refusal core__result__ResultFromResidualErrResidual__from_resi_29dc3d9d(struct core__result__ErrResidual__Refusal l1)
 {
     struct core__result__Result__rt_tuple3_u64_u8_Judged_Refusal l0;
     struct types__refusal__Refusal l2;
-    struct types__refusal__Refusal l3;
-    l3 = l1.f0;
-    l2 = core__convert__AnyFrom__from__Refusal(l3);
+    l2 = core__convert__AnyFrom__from__Refusal(l1.f0);
     l0.tag = UINT8_C(1);
     l0.s1 = l2;
     return l0;
 }
 
-static RT_HERE struct core__result__Result__u32_Refusal core__result__ResultFromResidualErrResidual__from_resi_29ec18ee(struct core__result__ErrResidual__Refusal l1)
+static RT_WITHIN struct core__result__Result__u32_Refusal core__result__ResultFromResidualErrResidual__from_resi_29ec18ee(struct core__result__ErrResidual__Refusal l1)
 {
     struct core__result__Result__u32_Refusal l0;
     struct types__refusal__Refusal l2;
-    struct types__refusal__Refusal l3;
-    l3 = l1.f0;
-    l2 = core__convert__AnyFrom__from__Refusal(l3);
+    l2 = core__convert__AnyFrom__from__Refusal(l1.f0);
     l0.tag = UINT8_C(1);
     l0.s1 = l2;
     return l0;
 }
 
-static RT_HERE struct core__result__Result__count_images_Counts_Refusal core__result__ResultFromResidualErrResidual__from_resi_31930649(struct core__result__ErrResidual__Refusal l1)
+static RT_WITHIN struct core__result__Result__count_images_Counts_Refusal core__result__ResultFromResidualErrResidual__from_resi_31930649(struct core__result__ErrResidual__Refusal l1)
 {
     struct core__result__Result__count_images_Counts_Refusal l0;
     struct types__refusal__Refusal l2;
-    struct types__refusal__Refusal l3;
-    l3 = l1.f0;
-    l2 = core__convert__AnyFrom__from__Refusal(l3);
+    l2 = core__convert__AnyFrom__from__Refusal(l1.f0);
     l0.tag = UINT8_C(1);
     l0.s1 = l2;
     return l0;
 }
 
-static RT_HERE struct core__result__Result__Loaded_Refusal core__result__ResultFromResidualErrResidual__from_resi_3d5841e5(struct core__result__ErrResidual__Refusal l1)
+static RT_WITHIN struct core__result__Result__Loaded_Refusal core__result__ResultFromResidualErrResidual__from_resi_3d5841e5(struct core__result__ErrResidual__Refusal l1)
 {
     struct core__result__Result__Loaded_Refusal l0;
     struct types__refusal__Refusal l2;
-    struct types__refusal__Refusal l3;
-    l3 = l1.f0;
-    l2 = core__convert__AnyFrom__from__Refusal(l3);
+    l2 = core__convert__AnyFrom__from__Refusal(l1.f0);
     l0.tag = UINT8_C(1);
     l0.s1 = l2;
     return l0;
 }
 
-static RT_HERE struct core__result__Result__rt_tuple2_u8_u64_Refusal core__result__ResultFromResidualErrResidual__from_resi_79390567(struct core__result__ErrResidual__Refusal l1)
+static RT_WITHIN struct core__result__Result__rt_tuple2_u8_u64_Refusal core__result__ResultFromResidualErrResidual__from_resi_79390567(struct core__result__ErrResidual__Refusal l1)
 {
     struct core__result__Result__rt_tuple2_u8_u64_Refusal l0;
     struct types__refusal__Refusal l2;
-    struct types__refusal__Refusal l3;
-    l3 = l1.f0;
-    l2 = core__convert__AnyFrom__from__Refusal(l3);
+    l2 = core__convert__AnyFrom__from__Refusal(l1.f0);
     l0.tag = UINT8_C(1);
     l0.s1 = l2;
     return l0;
 }
 
-static RT_HERE struct core__result__Result__Seat_Refusal core__result__ResultFromResidualErrResidual__from_resi_865746fe(struct core__result__ErrResidual__Refusal l1)
+static RT_WITHIN struct core__result__Result__Seat_Refusal core__result__ResultFromResidualErrResidual__from_resi_865746fe(struct core__result__ErrResidual__Refusal l1)
 {
     struct core__result__Result__Seat_Refusal l0;
     struct types__refusal__Refusal l2;
-    struct types__refusal__Refusal l3;
-    l3 = l1.f0;
-    l2 = core__convert__AnyFrom__from__Refusal(l3);
+    l2 = core__convert__AnyFrom__from__Refusal(l1.f0);
     l0.tag = UINT8_C(1);
     l0.s1 = l2;
     return l0;
 }
 
-static RT_HERE struct core__result__Result__rt_tuple2_u64_Done_Refusal core__result__ResultFromResidualErrResidual__from_resi_8768edf0(struct core__result__ErrResidual__Refusal l1)
+static RT_WITHIN struct core__result__Result__rt_tuple2_u64_Done_Refusal core__result__ResultFromResidualErrResidual__from_resi_8768edf0(struct core__result__ErrResidual__Refusal l1)
 {
     struct core__result__Result__rt_tuple2_u64_Done_Refusal l0;
     struct types__refusal__Refusal l2;
-    struct types__refusal__Refusal l3;
-    l3 = l1.f0;
-    l2 = core__convert__AnyFrom__from__Refusal(l3);
+    l2 = core__convert__AnyFrom__from__Refusal(l1.f0);
     l0.tag = UINT8_C(1);
     l0.s1 = l2;
     return l0;
 }
 
-static RT_HERE struct core__result__Result__u64_OperatorError core__result__ResultFromResidualErrResidual__from_resi_8fddf8e3(struct core__result__ErrResidual__OperatorError l1)
+static RT_WITHIN struct core__result__Result__u64_OperatorError core__result__ResultFromResidualErrResidual__from_resi_8fddf8e3(struct core__result__ErrResidual__OperatorError l1)
 {
     struct core__result__Result__u64_OperatorError l0;
     struct operators__OperatorError l2;
-    struct operators__OperatorError l3;
-    l3 = l1.f0;
-    l2 = core__convert__AnyFrom__from__OperatorError(l3);
+    l2 = core__convert__AnyFrom__from__OperatorError(l1.f0);
     l0.tag = UINT8_C(1);
     l0.s1 = l2;
     return l0;
 }
 
-static RT_HERE struct core__result__Result__Opened_Refusal core__result__ResultFromResidualErrResidual__from_resi_94ec4b81(struct core__result__ErrResidual__Refusal l1)
+static RT_WITHIN struct core__result__Result__Opened_Refusal core__result__ResultFromResidualErrResidual__from_resi_94ec4b81(struct core__result__ErrResidual__Refusal l1)
 {
     struct core__result__Result__Opened_Refusal l0;
     struct types__refusal__Refusal l2;
-    struct types__refusal__Refusal l3;
-    l3 = l1.f0;
-    l2 = core__convert__AnyFrom__from__Refusal(l3);
+    l2 = core__convert__AnyFrom__from__Refusal(l1.f0);
     l0.tag = UINT8_C(1);
     l0.s1 = l2;
     return l0;
 }
 
-static RT_HERE struct core__result__Result__rt_tuple2_u64_Summary_Refusal core__result__ResultFromResidualErrResidual__from_resi_9aee97b7(struct core__result__ErrResidual__Refusal l1)
+static RT_WITHIN struct core__result__Result__rt_tuple2_u64_Summary_Refusal core__result__ResultFromResidualErrResidual__from_resi_9aee97b7(struct core__result__ErrResidual__Refusal l1)
 {
     struct core__result__Result__rt_tuple2_u64_Summary_Refusal l0;
     struct types__refusal__Refusal l2;
-    struct types__refusal__Refusal l3;
-    l3 = l1.f0;
-    l2 = core__convert__AnyFrom__from__Refusal(l3);
+    l2 = core__convert__AnyFrom__from__Refusal(l1.f0);
     l0.tag = UINT8_C(1);
     l0.s1 = l2;
     return l0;
 }
 
-static RT_HERE struct core__result__Result__run_images_Report_Refusal core__result__ResultFromResidualErrResidual__from_resi_abcbd695(struct core__result__ErrResidual__Refusal l1)
+static RT_WITHIN struct core__result__Result__run_images_Report_Refusal core__result__ResultFromResidualErrResidual__from_resi_abcbd695(struct core__result__ErrResidual__Refusal l1)
 {
     struct core__result__Result__run_images_Report_Refusal l0;
     struct types__refusal__Refusal l2;
-    struct types__refusal__Refusal l3;
-    l3 = l1.f0;
-    l2 = core__convert__AnyFrom__from__Refusal(l3);
+    l2 = core__convert__AnyFrom__from__Refusal(l1.f0);
     l0.tag = UINT8_C(1);
     l0.s1 = l2;
     return l0;
 }
 
-static RT_HERE struct core__result__Result__rt_tuple2_u64_Totals_Refusal core__result__ResultFromResidualErrResidual__from_resi_e2c23d53(struct core__result__ErrResidual__Refusal l1)
+static RT_WITHIN struct core__result__Result__rt_tuple2_u64_Totals_Refusal core__result__ResultFromResidualErrResidual__from_resi_e2c23d53(struct core__result__ErrResidual__Refusal l1)
 {
     struct core__result__Result__rt_tuple2_u64_Totals_Refusal l0;
     struct types__refusal__Refusal l2;
-    struct types__refusal__Refusal l3;
-    l3 = l1.f0;
-    l2 = core__convert__AnyFrom__from__Refusal(l3);
+    l2 = core__convert__AnyFrom__from__Refusal(l1.f0);
     l0.tag = UINT8_C(1);
     l0.s1 = l2;
     return l0;
 }
 
-static RT_HERE struct core__result__Result__rt_tuple2_u64_Planned_Refusal core__result__ResultFromResidualErrResidual__from_resi_e75b3344(struct core__result__ErrResidual__Refusal l1)
+static RT_WITHIN struct core__result__Result__rt_tuple2_u64_Planned_Refusal core__result__ResultFromResidualErrResidual__from_resi_e75b3344(struct core__result__ErrResidual__Refusal l1)
 {
     struct core__result__Result__rt_tuple2_u64_Planned_Refusal l0;
     struct types__refusal__Refusal l2;
-    struct types__refusal__Refusal l3;
-    l3 = l1.f0;
-    l2 = core__convert__AnyFrom__from__Refusal(l3);
+    l2 = core__convert__AnyFrom__from__Refusal(l1.f0);
     l0.tag = UINT8_C(1);
     l0.s1 = l2;
     return l0;
 }
 
-static RT_HERE struct core__result__Result__u64_Refusal core__result__ResultFromResidualErrResidual__from_resi_f9cf8d89(struct core__result__ErrResidual__Refusal l1)
+static RT_WITHIN struct core__result__Result__u64_Refusal core__result__ResultFromResidualErrResidual__from_resi_f9cf8d89(struct core__result__ErrResidual__Refusal l1)
 {
     struct core__result__Result__u64_Refusal l0;
     struct types__refusal__Refusal l2;
-    struct types__refusal__Refusal l3;
-    l3 = l1.f0;
-    l2 = core__convert__AnyFrom__from__Refusal(l3);
+    l2 = core__convert__AnyFrom__from__Refusal(l1.f0);
     l0.tag = UINT8_C(1);
     l0.s1 = l2;
     return l0;
 }
 
-static RT_HERE struct core__result__Result__rt_tuple2_u64_Facts_Refusal core__result__ResultFromResidualErrResidual__from_resi_fbfd7bc2(struct core__result__ErrResidual__Refusal l1)
+static RT_WITHIN struct core__result__Result__rt_tuple2_u64_Facts_Refusal core__result__ResultFromResidualErrResidual__from_resi_fbfd7bc2(struct core__result__ErrResidual__Refusal l1)
 {
     struct core__result__Result__rt_tuple2_u64_Facts_Refusal l0;
     struct types__refusal__Refusal l2;
-    struct types__refusal__Refusal l3;
-    l3 = l1.f0;
-    l2 = core__convert__AnyFrom__from__Refusal(l3);
+    l2 = core__convert__AnyFrom__from__Refusal(l1.f0);
     l0.tag = UINT8_C(1);
     l0.s1 = l2;
     return l0;
 }
 
-static RT_HERE struct core__ops__ControlFlow__ErrResidual_Refusal_rt_tuple3__6dda1656 core__result__ResultTry__branch__rt_tuple3_u64_u8_Judg_d80f38d1(struct core__result__Result__rt_tuple3_u64_u8_Judged_Refusal l1)
+static RT_WITHIN struct core__ops__ControlFlow__ErrResidual_Refusal_rt_tuple3__6dda1656 core__result__ResultTry__branch__rt_tuple3_u64_u8_Judg_d80f38d1(struct core__result__Result__rt_tuple3_u64_u8_Judged_Refusal l1)
 {
     struct core__ops__ControlFlow__ErrResidual_Refusal_rt_tuple3__6dda1656 l0;
-    struct rt_tuple3__u64_u8_Judged l2;
-    struct types__refusal__Refusal l3;
     struct core__ops__ControlFlow__ErrResidual_Refusal_rt_tuple3__6dda1656 l4;
-    struct rt_tuple3__u64_u8_Judged l5;
-    struct types__refusal__Refusal l6;
     struct core__result__ErrResidual__Refusal l7;
     switch (l1.tag) {
         case UINT8_C(0): {
-            l2.f0 = l1.s0.f0;
-            l2.f1 = l1.s0.f1;
-            l2.f2.f0 = l1.s0.f2.f0;
-            l2.f2.f1 = l1.s0.f2.f1;
-            l5.f0 = l2.f0;
-            l5.f1 = l2.f1;
-            l5.f2.f0 = l2.f2.f0;
-            l5.f2.f1 = l2.f2.f1;
             l4.tag = UINT8_C(0);
-            l4.s0 = l5;
+            l4.s0.f0 = l1.s0.f0;
+            l4.s0.f1 = l1.s0.f1;
+            l4.s0.f2.f0 = l1.s0.f2.f0;
+            l4.s0.f2.f1 = l1.s0.f2.f1;
             break;
         }
         case UINT8_C(1): default: {
-            l3 = l1.s1;
-            l6 = l3;
-            l7.f0 = l6;
+            l7.f0 = l1.s1;
             l4.tag = UINT8_C(1);
-            l4.s1 = l7;
+            l4.s1.f0 = l7.f0;
             break;
         }
     }
@@ -8593,12 +8035,9 @@ static RT_APART struct core__result__Result__count_images_Counts_Refusal count_i
     struct core__result__Result__count_images_Counts_Refusal l0;
     struct rt_array_uint64_1024 l7;
     struct rt_array_uint16_1024 l8;
-    struct count_images__Question l9;
     struct layout__Numbers l10;
-    struct core__result__ErrResidual__Refusal l12;
     struct counting__count__Asked l13;
     struct counting__count__Tally l14;
-    rt_slice l16;
     uint8_t *l17;
     rt_slice l18;
     uint8_t *l19;
@@ -8614,7 +8053,6 @@ static RT_APART struct core__result__Result__count_images_Counts_Refusal count_i
     struct core__result__Result__unit_Refusal l29;
     uint8_t *l30;
     rt_slice l31;
-    struct table_read__parameters__Parameters l32;
     uint8_t *l33;
     rt_slice l34;
     uint8_t *l35;
@@ -8627,7 +8065,6 @@ static RT_APART struct core__result__Result__count_images_Counts_Refusal count_i
     struct engine__Machine l42;
     uint8_t *l43;
     rt_slice l44;
-    rt_slice l45;
     uint8_t *l46;
     rt_slice l47;
     uint8_t *l48;
@@ -8635,18 +8072,14 @@ static RT_APART struct core__result__Result__count_images_Counts_Refusal count_i
     struct count_images__Counts l50;
     memset(&l7, 0, sizeof l7);
     memset(&l8, 0, sizeof l8);
-    l16 = l2.f0;
     l17 = (uint8_t *)&l7;
     l18.p = l17;
     l18.n = UINT64_C(1024);
     l19 = (uint8_t *)&l8;
     l20.p = l19;
     l20.n = UINT64_C(1024);
-    count_images__prepared(l1, l16, l3, l4, l18, l20);
-    l9.f0 = l4.f1.f0;
-    l9.f1 = l4.f1.f1;
-    l9.f2 = l4.f1.f2;
-    l21 = (uint8_t)(UINT64_C(32) <= l9.f0);
+    count_images__prepared(l1, l2.f0, l3, l4, l18, l20);
+    l21 = (uint8_t)(UINT64_C(32) <= l4.f1.f0);
     if (l21) {
         l22.tag = UINT8_C(6);
         l0.tag = UINT8_C(1);
@@ -8657,7 +8090,7 @@ static RT_APART struct core__result__Result__count_images_Counts_Refusal count_i
     l24.p = l23;
     l24.n = UINT64_C(1024);
     l25 = l2.f0.n;
-    l21 = count_images__has_step(l24, l25, l9.f0);
+    l21 = count_images__has_step(l24, l25, l4.f1.f0);
     l26 = (uint8_t)!l21;
     if (l26) {
         l27.tag = UINT8_C(6);
@@ -8675,17 +8108,22 @@ static RT_APART struct core__result__Result__count_images_Counts_Refusal count_i
     l30 = (uint8_t *)&(*(uint16_t *)l5.p);
     l31.p = l30;
     l31.n = l5.n;
-    l32.f0 = l2.f0;
-    l32.f1 = l2.f1;
-    l29 = count_images__placed(l31, l32, l10.f0, l9);
+    l29 = count_images__placed(l31, l2, l10.f0, l4.f1);
     l28 = core__result__ResultTry__branch__unit_Refusal(l29);
     switch (l28.tag) {
         case UINT8_C(0): {
             break;
         }
         case UINT8_C(1): default: {
-            l12.f0 = l28.s0.f0;
-            l0 = core__result__ResultFromResidualErrResidual__from_resi_31930649(l12);
+            {
+                struct core__result__Result__count_images_Counts_Refusal r = core__result__ResultFromResidualErrResidual__from_resi_31930649(l28.s0);
+                l0.tag = r.tag;
+                l0.s0.f0 = r.s0.f0;
+                l0.s0.f1 = r.s0.f1;
+                l0.s0.f2 = r.s0.f2;
+                l0.s0.f3 = r.s0.f3;
+                l0.s1.tag = r.s1.tag;
+            }
             return l0;
             break;
         }
@@ -8696,7 +8134,7 @@ static RT_APART struct core__result__Result__count_images_Counts_Refusal count_i
     l35 = (uint8_t *)&(*(uint16_t *)l5.p);
     l36.p = l35;
     l36.n = l5.n;
-    scheduler__begin__begin_all(l34, l36, l9.f0, l10.f0);
+    scheduler__begin__begin_all(l34, l36, l4.f1.f0, l10.f0);
     l37 = (uint8_t *)&(*(uint16_t *)l5.p);
     l38.p = l37;
     l38.n = l5.n;
@@ -8713,26 +8151,34 @@ static RT_APART struct core__result__Result__count_images_Counts_Refusal count_i
     l41.n = l5.n;
     l25 = scheduler__count__holding(l41, l10.f0);
     l10.f5 = l25;
-    l13.f0 = l9.f1;
-    l13.f1 = l9.f2;
-    l42.f0 = l10;
+    l13.f0 = l4.f1.f1;
+    l13.f1 = l4.f1.f2;
+    l42.f0.f0 = l10.f0;
+    l42.f0.f1 = l10.f1;
+    l42.f0.f2 = l10.f2;
+    l42.f0.f3 = l10.f3;
+    l42.f0.f4 = l10.f4;
+    l42.f0.f5 = l10.f5;
+    l42.f0.f6 = l10.f6;
     l43 = (uint8_t *)&l7;
     l44.p = l43;
     l44.n = UINT64_C(1024);
-    l45 = l2.f0;
     l46 = (uint8_t *)&(*(uint16_t *)l5.p);
     l47.p = l46;
     l47.n = l5.n;
     l48 = (uint8_t *)&(*(uint64_t *)l6.p);
     l49.p = l48;
     l49.n = l6.n;
-    l14 = counting__count__all(l42, l44, l45, l47, l49, l13);
+    l14 = counting__count__all(l42, l44, l2.f0, l47, l49, l13);
     l50.f0 = UINT8_C(0);
     l50.f1 = l14.f0;
     l50.f2 = l14.f1;
     l50.f3 = l14.f2;
     l0.tag = UINT8_C(0);
-    l0.s0 = l50;
+    l0.s0.f0 = l50.f0;
+    l0.s0.f1 = l50.f1;
+    l0.s0.f2 = l50.f2;
+    l0.s0.f3 = l50.f3;
     return l0;
 }
 
@@ -8744,35 +8190,24 @@ static RT_APART struct core__result__Result__count_images_Counts_Refusal count_i
     struct rt_array_uint8_8568 l9;
     struct rt_array_uint16_1536 l10;
     struct rt_array_uint64_8192 l11;
-    struct seating__Seat l12;
-    struct seating__Seat l13;
-    struct core__result__ErrResidual__Refusal l14;
     struct count_images__Asking l15;
-    struct count_images__Counts l16;
-    struct count_images__Counts l17;
-    struct core__result__ErrResidual__Refusal l18;
     struct core__ops__ControlFlow__ErrResidual_Refusal_Seat l19;
     struct core__result__Result__Seat_Refusal l20;
-    struct table_read__parameters__Parameters l21;
     uint8_t *l22;
     rt_slice l23;
     uint8_t *l24;
     rt_slice l25;
     uint8_t *l26;
     rt_slice l27;
-    struct seating__Seat l28;
     uint64_t l29;
     uint8_t l30;
     struct types__refusal__Refusal l31;
     struct core__ops__ControlFlow__ErrResidual_Refusal_count_images_Counts l32;
     struct core__result__Result__count_images_Counts_Refusal l33;
-    struct table_read__parameters__Parameters l34;
     uint8_t *l35;
     rt_slice l36;
     uint8_t *l37;
     rt_slice l38;
-    struct count_images__Counts l39;
-    rt_slice l41;
     uint8_t *l42;
     rt_slice l43;
     l7.f0 = (*(struct seating__Opened *)l1).f0.f0;
@@ -8786,8 +8221,6 @@ static RT_APART struct core__result__Result__count_images_Counts_Refusal count_i
     memset(&l9, 0, sizeof l9);
     memset(&l10, 0, sizeof l10);
     memset(&l11, 0, sizeof l11);
-    l21.f0 = l8.f0;
-    l21.f1 = l8.f1;
     l22 = (uint8_t *)&l9;
     l23.p = l22;
     l23.n = UINT64_C(8568);
@@ -8797,43 +8230,26 @@ static RT_APART struct core__result__Result__count_images_Counts_Refusal count_i
     l26 = (uint8_t *)&l11;
     l27.p = l26;
     l27.n = UINT64_C(8192);
-    l20 = seating__seat_table(l7.f1, l21, l4, l23, l25, l27);
+    l20 = seating__seat_table(l7.f1, l8, l4, l23, l25, l27);
     l19 = core__result__ResultTry__branch__Seat_Refusal(l20);
     switch (l19.tag) {
         case UINT8_C(0): {
-            l13.f0 = l19.s0.f0;
-            l13.f1.f0 = l19.s0.f1.f0;
-            l13.f1.f1 = l19.s0.f1.f1;
-            l13.f1.f2 = l19.s0.f1.f2;
-            l13.f1.f3 = l19.s0.f1.f3;
-            l13.f1.f4 = l19.s0.f1.f4;
-            l13.f1.f5 = l19.s0.f1.f5;
-            l13.f1.f6 = l19.s0.f1.f6;
-            l28.f0 = l13.f0;
-            l28.f1.f0 = l13.f1.f0;
-            l28.f1.f1 = l13.f1.f1;
-            l28.f1.f2 = l13.f1.f2;
-            l28.f1.f3 = l13.f1.f3;
-            l28.f1.f4 = l13.f1.f4;
-            l28.f1.f5 = l13.f1.f5;
-            l28.f1.f6 = l13.f1.f6;
             break;
         }
         case UINT8_C(1): default: {
-            l14.f0 = l19.s1.f0;
-            l0 = core__result__ResultFromResidualErrResidual__from_resi_31930649(l14);
+            {
+                struct core__result__Result__count_images_Counts_Refusal r = core__result__ResultFromResidualErrResidual__from_resi_31930649(l19.s1);
+                l0.tag = r.tag;
+                l0.s0.f0 = r.s0.f0;
+                l0.s0.f1 = r.s0.f1;
+                l0.s0.f2 = r.s0.f2;
+                l0.s0.f3 = r.s0.f3;
+                l0.s1.tag = r.s1.tag;
+            }
             return l0;
             break;
         }
     }
-    l12.f0 = l28.f0;
-    l12.f1.f0 = l28.f1.f0;
-    l12.f1.f1 = l28.f1.f1;
-    l12.f1.f2 = l28.f1.f2;
-    l12.f1.f3 = l28.f1.f3;
-    l12.f1.f4 = l28.f1.f4;
-    l12.f1.f5 = l28.f1.f5;
-    l12.f1.f6 = l28.f1.f6;
     l29 = l6.n;
     l30 = (uint8_t)(l29 < UINT64_C(1024));
     if (l30) {
@@ -8843,50 +8259,54 @@ static RT_APART struct core__result__Result__count_images_Counts_Refusal count_i
         return l0;
     }
     l29 = (uint64_t)l7.f4;
-    l15.f0 = l12;
-    l15.f1 = l5;
+    l15.f0.f0 = l19.s0.f0;
+    l15.f0.f1.f0 = l19.s0.f1.f0;
+    l15.f0.f1.f1 = l19.s0.f1.f1;
+    l15.f0.f1.f2 = l19.s0.f1.f2;
+    l15.f0.f1.f3 = l19.s0.f1.f3;
+    l15.f0.f1.f4 = l19.s0.f1.f4;
+    l15.f0.f1.f5 = l19.s0.f1.f5;
+    l15.f0.f1.f6 = l19.s0.f1.f6;
+    l15.f1.f0 = l5.f0;
+    l15.f1.f1 = l5.f1;
+    l15.f1.f2 = l5.f2;
     l15.f2 = l7.f2;
     l15.f3 = l29;
-    l34.f0 = l8.f0;
-    l34.f1 = l8.f1;
     l35 = (uint8_t *)&l10;
     l36.p = l35;
     l36.n = UINT64_C(1536);
     l37 = (uint8_t *)&l11;
     l38.p = l37;
     l38.n = UINT64_C(8192);
-    l33 = count_images__answered(l2, l34, l3, l15, l36, l38);
+    l33 = count_images__answered(l2, l8, l3, l15, l36, l38);
     l32 = core__result__ResultTry__branch__count_images_Counts_Refusal(l33);
     switch (l32.tag) {
         case UINT8_C(0): {
-            l17.f0 = l32.s0.f0;
-            l17.f1 = l32.s0.f1;
-            l17.f2 = l32.s0.f2;
-            l17.f3 = l32.s0.f3;
-            l39.f0 = l17.f0;
-            l39.f1 = l17.f1;
-            l39.f2 = l17.f2;
-            l39.f3 = l17.f3;
             break;
         }
         case UINT8_C(1): default: {
-            l18.f0 = l32.s1.f0;
-            l0 = core__result__ResultFromResidualErrResidual__from_resi_31930649(l18);
+            {
+                struct core__result__Result__count_images_Counts_Refusal r = core__result__ResultFromResidualErrResidual__from_resi_31930649(l32.s1);
+                l0.tag = r.tag;
+                l0.s0.f0 = r.s0.f0;
+                l0.s0.f1 = r.s0.f1;
+                l0.s0.f2 = r.s0.f2;
+                l0.s0.f3 = r.s0.f3;
+                l0.s1.tag = r.s1.tag;
+            }
             return l0;
             break;
         }
     }
-    l16.f0 = l39.f0;
-    l16.f1 = l39.f1;
-    l16.f2 = l39.f2;
-    l16.f3 = l39.f3;
-    l41 = l8.f0;
     l42 = (uint8_t *)&(*(uint64_t *)l6.p);
     l43.p = l42;
     l43.n = l6.n;
-    emit_steps__program(l2, l41, l12.f0, l43);
+    emit_steps__program(l2, l8.f0, l19.s0.f0, l43);
     l0.tag = UINT8_C(0);
-    l0.s0 = l16;
+    l0.s0.f0 = l32.s0.f0;
+    l0.s0.f1 = l32.s0.f1;
+    l0.s0.f2 = l32.s0.f2;
+    l0.s0.f3 = l32.s0.f3;
     return l0;
 }
 
@@ -8896,8 +8316,6 @@ static RT_APART struct count_images__Counts count_images__count(rt_slice l1, rt_
     struct rt_array_uint8_5730 l7;
     struct rt_array_uint16_512 l8;
     struct seating__Opened l9;
-    struct seating__Opened l10;
-    struct types__refusal__Refusal l11;
     uint64_t l12;
     struct count_images__Question l13;
     struct core__result__Result__Opened_Refusal l14;
@@ -8905,7 +8323,6 @@ static RT_APART struct count_images__Counts count_images__count(rt_slice l1, rt_
     rt_slice l16;
     uint8_t *l17;
     rt_slice l18;
-    struct seating__Opened l19;
     uint8_t l20;
     uint64_t l21;
     uint64_t l22;
@@ -8929,43 +8346,24 @@ static RT_APART struct count_images__Counts count_images__count(rt_slice l1, rt_
     l14 = seating__open_program(l1, l16, l18);
     switch (l14.tag) {
         case UINT8_C(0): {
-            l10.f0.f0 = l14.s0.f0.f0;
-            l10.f0.f1 = l14.s0.f0.f1;
-            l10.f0.f2 = l14.s0.f0.f2;
-            l10.f0.f3 = l14.s0.f0.f3;
-            l10.f0.f4 = l14.s0.f0.f4;
-            l10.f0.f5 = l14.s0.f0.f5;
-            l10.f0.f6 = l14.s0.f0.f6;
-            l10.f1 = l14.s0.f1;
-            l10.f2 = l14.s0.f2;
-            l19.f0.f0 = l10.f0.f0;
-            l19.f0.f1 = l10.f0.f1;
-            l19.f0.f2 = l10.f0.f2;
-            l19.f0.f3 = l10.f0.f3;
-            l19.f0.f4 = l10.f0.f4;
-            l19.f0.f5 = l10.f0.f5;
-            l19.f0.f6 = l10.f0.f6;
-            l19.f1 = l10.f1;
-            l19.f2 = l10.f2;
             break;
         }
         case UINT8_C(1): default: {
-            l11 = l14.s1;
-            l20 = types__refusal__U8FromRefusal__from(l11);
+            l20 = types__refusal__U8FromRefusal__from(l14.s1);
             l0 = count_images__refused(l20);
             return l0;
             break;
         }
     }
-    l9.f0.f0 = l19.f0.f0;
-    l9.f0.f1 = l19.f0.f1;
-    l9.f0.f2 = l19.f0.f2;
-    l9.f0.f3 = l19.f0.f3;
-    l9.f0.f4 = l19.f0.f4;
-    l9.f0.f5 = l19.f0.f5;
-    l9.f0.f6 = l19.f0.f6;
-    l9.f1 = l19.f1;
-    l9.f2 = l19.f2;
+    l9.f0.f0 = l14.s0.f0.f0;
+    l9.f0.f1 = l14.s0.f0.f1;
+    l9.f0.f2 = l14.s0.f0.f2;
+    l9.f0.f3 = l14.s0.f0.f3;
+    l9.f0.f4 = l14.s0.f0.f4;
+    l9.f0.f5 = l14.s0.f0.f5;
+    l9.f0.f6 = l14.s0.f0.f6;
+    l9.f1 = l14.s0.f1;
+    l9.f2 = l14.s0.f2;
     l12 = l9.f0.f0;
     l21 = (uint64_t)l3;
     l22 = (uint64_t)l4;
@@ -9079,7 +8477,6 @@ static inline struct core__result__Result__unit_Refusal count_images__placed(rt_
 static inline void count_images__prepared(rt_slice l1, rt_slice l2, rt_slice l3, struct count_images__Asking l4, rt_slice l5, rt_slice l6)
 {
     struct rt_array_uint64_129 l7;
-    uint64_t l9;
     uint8_t *l10;
     rt_slice l11;
     uint8_t *l12;
@@ -9087,14 +8484,13 @@ static inline void count_images__prepared(rt_slice l1, rt_slice l2, rt_slice l3,
     uint8_t *l14;
     rt_slice l15;
     memset(&l7, 0, sizeof l7);
-    l9 = l2.n;
     l10 = (uint8_t *)&(*(uint16_t *)l6.p);
     l11.p = l10;
     l11.n = l6.n;
     l12 = (uint8_t *)&l7;
     l13.p = l12;
     l13.n = UINT64_C(129);
-    compile__program(l1, l4.f2, l9, l3, l4.f3, l11, l13);
+    compile__program(l1, l4.f2, l2.n, l3, l4.f3, l11, l13);
     l14 = (uint8_t *)&(*(uint64_t *)l5.p);
     l15.p = l14;
     l15.n = l5.n;
@@ -9115,25 +8511,18 @@ static RT_HERE struct count_images__Counts count_images__refused(uint8_t l1)
 static RT_HERE struct count_images__Counts count_images__settled(struct core__result__Result__count_images_Counts_Refusal l1)
 {
     struct count_images__Counts l0;
-    struct count_images__Counts l2;
-    struct types__refusal__Refusal l3;
     struct count_images__Counts l4;
     uint8_t l5;
     switch (l1.tag) {
         case UINT8_C(0): {
-            l2.f0 = l1.s0.f0;
-            l2.f1 = l1.s0.f1;
-            l2.f2 = l1.s0.f2;
-            l2.f3 = l1.s0.f3;
-            l4.f0 = l2.f0;
-            l4.f1 = l2.f1;
-            l4.f2 = l2.f2;
-            l4.f3 = l2.f3;
+            l4.f0 = l1.s0.f0;
+            l4.f1 = l1.s0.f1;
+            l4.f2 = l1.s0.f2;
+            l4.f3 = l1.s0.f3;
             break;
         }
         case UINT8_C(1): default: {
-            l3 = l1.s1;
-            l5 = types__refusal__U8FromRefusal__from(l3);
+            l5 = types__refusal__U8FromRefusal__from(l1.s1);
             l4 = count_images__refused(l5);
             break;
         }
@@ -9145,7 +8534,7 @@ static RT_HERE struct count_images__Counts count_images__settled(struct core__re
     return l0;
 }
 
-static RT_HERE struct rt_array_uint16_6 counting__copies__part__u16_6(rt_slice l1, uint64_t l2)
+static RT_WITHIN struct rt_array_uint16_6 counting__copies__part__u16_6(rt_slice l1, uint64_t l2)
 {
     struct rt_array_uint16_6 l0;
     struct rt_array_uint16_6 l3;
@@ -9209,7 +8598,7 @@ static RT_HERE struct rt_array_uint64_32 counting__copies__part__u64_32(rt_slice
     return l0;
 }
 
-static RT_HERE void counting__copies__write__u16(rt_slice l1, uint64_t l2, rt_slice l3)
+static RT_WITHIN void counting__copies__write__u16(rt_slice l1, uint64_t l2, rt_slice l3)
 {
     uint64_t l4;
     uint64_t l5;
@@ -9229,7 +8618,7 @@ static RT_HERE void counting__copies__write__u16(rt_slice l1, uint64_t l2, rt_sl
     return;
 }
 
-static RT_HERE void counting__copies__write__u64(rt_slice l1, uint64_t l2, rt_slice l3)
+static RT_WITHIN void counting__copies__write__u64(rt_slice l1, uint64_t l2, rt_slice l3)
 {
     uint64_t l4;
     uint64_t l5;
@@ -9267,7 +8656,6 @@ static inline struct counting__count__Tally counting__count__add(struct counting
 static inline struct counting__count__Tally counting__count__all(struct engine__Machine l1, rt_slice l2, rt_slice l3, rt_slice l4, rt_slice l5, struct counting__count__Asked l6)
 {
     struct counting__count__Tally l0;
-    uint64_t l7;
     struct counting__count__Tally l8;
     uint64_t l9;
     struct counting__count__Tally l10;
@@ -9287,11 +8675,10 @@ static inline struct counting__count__Tally counting__count__all(struct engine__
         l0 = counting__count__resting(l13, l6);
         return l0;
     }
-    l7 = l1.f0.f0;
     l8 = counting__count__nothing();
     l9 = UINT64_C(0);
     for (;;) {
-        l14 = (uint8_t)(l9 < l7);
+        l14 = (uint8_t)(l9 < l1.f0.f0);
         if (l14) {
         } else {
             goto end1;
@@ -9484,7 +8871,6 @@ static inline void counting__rows__restore(rt_slice l1, rt_slice l2, uint64_t l3
     struct rt_array_uint16_6 l7;
     struct rt_array_uint64_32 l8;
     struct rt_array_uint64_32 l9;
-    uint64_t l10;
     uint8_t *l12;
     rt_slice l13;
     uint64_t l14;
@@ -9502,13 +8888,11 @@ static inline void counting__rows__restore(rt_slice l1, rt_slice l2, uint64_t l3
     rt_slice l26;
     uint8_t *l27;
     rt_slice l28;
-    uint64_t l29;
     uint8_t *l30;
     l6 = l5.f0;
     l7 = l5.f1;
     l8 = l5.f2;
     l9 = l5.f3;
-    l10 = l5.f4;
     l12 = (uint8_t *)&(*(uint16_t *)l1.p);
     l13.p = l12;
     l13.n = l1.n;
@@ -9541,10 +8925,9 @@ static inline void counting__rows__restore(rt_slice l1, rt_slice l2, uint64_t l3
     l28.p = l27;
     l28.n = UINT64_C(32);
     counting__copies__write__u64(l26, l14, l28);
-    l29 = l5.f5;
-    l14 = (uint64_t)((uint64_t)l10 * (uint64_t)UINT64_C(8));
+    l14 = (uint64_t)((uint64_t)l5.f4 * (uint64_t)UINT64_C(8));
     l30 = l2.p + (size_t)l14;
-    (*(uint64_t *)l30) = l29;
+    (*(uint64_t *)l30) = l5.f5;
     return;
 }
 
@@ -9556,7 +8939,6 @@ static inline struct counting__rows__Saved counting__rows__save(rt_slice l1, rt_
     struct rt_array_uint16_6 l8;
     struct rt_array_uint64_32 l9;
     struct rt_array_uint64_32 l10;
-    uint64_t l11;
     uint64_t l12;
     uint8_t *l13;
     uint64_t l14;
@@ -9568,13 +8950,12 @@ static inline struct counting__rows__Saved counting__rows__save(rt_slice l1, rt_
     l12 = (uint64_t)((uint64_t)l6 * (uint64_t)UINT64_C(8));
     l13 = l3.p + (size_t)l12;
     l14 = (*(uint64_t *)l13);
-    l11 = l14;
     l0.f0 = l7;
     l0.f1 = l8;
     l0.f2 = l9;
     l0.f3 = l10;
     l0.f4 = l6;
-    l0.f5 = l11;
+    l0.f5 = l14;
     return l0;
 }
 
@@ -9628,10 +9009,6 @@ static RT_HERE struct derive__Mark derive__below(rt_slice l1, uint64_t l2, uint8
 {
     struct derive__Mark l0;
     uint64_t l4;
-    uint8_t l5;
-    uint8_t l6;
-    uint8_t l7;
-    uint8_t l8;
     uint8_t l9;
     uint8_t *l10;
     uint8_t l11;
@@ -9648,23 +9025,19 @@ static RT_HERE struct derive__Mark derive__below(rt_slice l1, uint64_t l2, uint8
     l4 = (uint64_t)((uint64_t)l2 - (uint64_t)UINT64_C(1));
     l10 = l1.p + (size_t)l4;
     l11 = (*(uint8_t *)l10);
-    l5 = l11;
-    l13 = derive__index(l5, l3);
+    l13 = derive__index(l11, l3);
     l12 = derive__table__act_at(l13);
     switch (l12.tag) {
         case UINT8_C(0): {
-            l6 = l12.s0;
-            l14.f0 = l6;
+            l14.f0 = l12.s0;
             l14.f1 = l4;
             break;
         }
         case UINT8_C(1): {
-            l7 = l12.s0;
-            l8 = l12.s1;
             l15 = (uint8_t *)&(*(uint8_t *)l1.p);
             l16.p = l15;
             l16.n = l1.n;
-            l14 = derive__pushed(l16, l4, l7, l8);
+            l14 = derive__pushed(l16, l4, l12.s0, l12.s1);
             break;
         }
         case UINT8_C(2): case UINT8_C(3): default: {
@@ -9691,7 +9064,6 @@ static inline uint8_t derive__derived(rt_slice l1, rt_slice l2)
     struct derive__Mark l3;
     uint64_t l4;
     uint64_t l5;
-    uint8_t l6;
     uint64_t l7;
     uint8_t l8;
     uint8_t *l9;
@@ -9725,21 +9097,20 @@ static inline uint8_t derive__derived(rt_slice l1, rt_slice l2)
         }
         l13 = l1.p + (size_t)l5;
         l14 = (*(uint8_t *)l13);
-        l6 = l14;
-        l7 = derive__entry(l3.f0, l6);
+        l7 = derive__entry(l3.f0, l14);
         l15 = (uint8_t *)&(*(uint8_t *)l2.p);
         l16.p = l15;
         l16.n = l2.n;
-        l8 = derive__roles__role(l16, l3, l6, l7);
+        l8 = derive__roles__role(l16, l3, l14, l7);
         l18 = (uint8_t *)&(*(uint8_t *)l1.p);
         l19.p = l18;
         l19.n = l1.n;
-        l20 = derive__roles__renamed(l3.f0, l6);
+        l20 = derive__roles__renamed(l3.f0, l14);
         derive__roles__leave(l19, l5, l4, l8, l20);
         l21 = (uint8_t *)&(*(uint8_t *)l2.p);
         l22.p = l21;
         l22.n = l2.n;
-        l3 = derive__moved(l22, l3, l6, l7);
+        l3 = derive__moved(l22, l3, l14, l7);
         l4 = l5;
         l23 = (uint8_t *)&(*(uint8_t *)l1.p);
         l24.p = l23;
@@ -9814,39 +9185,31 @@ static inline uint64_t derive__index(uint8_t l1, uint8_t l2)
 static RT_HERE struct derive__Mark derive__moved(rt_slice l1, struct derive__Mark l2, uint8_t l3, uint64_t l4)
 {
     struct derive__Mark l0;
-    uint64_t l5;
-    uint8_t l6;
-    uint8_t l7;
-    uint8_t l8;
     struct text_shape__Act l9;
     struct derive__Mark l10;
     uint8_t *l11;
     rt_slice l12;
     uint8_t *l13;
     rt_slice l14;
-    l5 = l2.f1;
     l9 = derive__table__act_at(l4);
     switch (l9.tag) {
         case UINT8_C(0): {
-            l6 = l9.s0;
-            l10.f0 = l6;
-            l10.f1 = l5;
+            l10.f0 = l9.s0;
+            l10.f1 = l2.f1;
             break;
         }
         case UINT8_C(1): {
-            l7 = l9.s0;
-            l8 = l9.s1;
             l11 = (uint8_t *)&(*(uint8_t *)l1.p);
             l12.p = l11;
             l12.n = l1.n;
-            l10 = derive__pushed(l12, l5, l7, l8);
+            l10 = derive__pushed(l12, l2.f1, l9.s0, l9.s1);
             break;
         }
         case UINT8_C(2): {
             l13 = (uint8_t *)&(*(uint8_t *)l1.p);
             l14.p = l13;
             l14.n = l1.n;
-            l10 = derive__below(l14, l5, l3);
+            l10 = derive__below(l14, l2.f1, l3);
             break;
         }
         case UINT8_C(3): default: {
@@ -9874,14 +9237,12 @@ static RT_HERE struct derive__Mark derive__pushed(rt_slice l1, uint64_t l2, uint
 
 static inline void derive__roles__leave(rt_slice l1, uint64_t l2, uint64_t l3, uint8_t l4, struct core__option__Option__u8 l5)
 {
-    uint8_t l6;
     uint8_t *l7;
     uint8_t *l8;
     switch (l5.tag) {
         case UINT8_C(1): {
-            l6 = l5.s0;
             l7 = l1.p + (size_t)l3;
-            (*(uint8_t *)l7) = l6;
+            (*(uint8_t *)l7) = l5.s0;
             break;
         }
         case UINT8_C(0): default: {
@@ -9896,14 +9257,10 @@ static inline void derive__roles__leave(rt_slice l1, uint64_t l2, uint64_t l3, u
 static inline struct core__option__Option__u8 derive__roles__renamed(uint8_t l1, uint8_t l2)
 {
     struct core__option__Option__u8 l0;
-    uint8_t l3;
-    uint8_t l4;
     struct core__option__Option__u8 l5;
-    l3 = l1;
-    l4 = l2;
-    switch (l3) {
+    switch (l1) {
         case UINT8_C(14): {
-            switch (l4) {
+            switch (l2) {
                 case UINT8_C(36): {
                     l5.tag = UINT8_C(1);
                     l5.s0 = UINT8_C(58);
@@ -9924,7 +9281,7 @@ static inline struct core__option__Option__u8 derive__roles__renamed(uint8_t l1,
             break;
         }
         case UINT8_C(24): {
-            switch (l4) {
+            switch (l2) {
                 case UINT8_C(13): {
                     l5.tag = UINT8_C(1);
                     l5.s0 = UINT8_C(46);
@@ -9939,7 +9296,7 @@ static inline struct core__option__Option__u8 derive__roles__renamed(uint8_t l1,
             break;
         }
         case UINT8_C(30): {
-            switch (l4) {
+            switch (l2) {
                 case UINT8_C(21): {
                     l5.tag = UINT8_C(1);
                     l5.s0 = UINT8_C(49);
@@ -10032,8 +9389,6 @@ static RT_HERE struct derive__Mark derive__step(rt_slice l1, struct derive__Mark
 static inline struct text_shape__Act derive__table__act_at(uint64_t l1)
 {
     struct text_shape__Act l0;
-    uint8_t l2;
-    uint8_t l3;
     uint8_t l4;
     rt_slice l5;
     uint8_t *l6;
@@ -10058,7 +9413,6 @@ static inline struct text_shape__Act derive__table__act_at(uint64_t l1)
             break;
         }
         default: {
-            l2 = l4;
             l10 = derive__table__opened();
             l11 = l10.p + (size_t)l1;
             l12 = (*(uint8_t *)l11);
@@ -10066,14 +9420,13 @@ static inline struct text_shape__Act derive__table__act_at(uint64_t l1)
             switch (l9) {
                 case UINT8_C(0): {
                     l13.tag = UINT8_C(0);
-                    l13.s0 = l2;
+                    l13.s0 = l4;
                     break;
                 }
                 default: {
-                    l3 = l9;
                     l13.tag = UINT8_C(1);
-                    l13.s0 = l2;
-                    l13.s1 = l3;
+                    l13.s0 = l4;
+                    l13.s1 = l9;
                     break;
                 }
             }
@@ -10161,7 +9514,10 @@ static RT_HERE struct core__option__Option__Row directory__rows__find(rt_slice l
         l9 = directory__rows__is_row(l6, l10, l11);
         if (l9) {
             l0.tag = UINT8_C(1);
-            l0.s0 = l6;
+            l0.s0.f0 = l6.f0;
+            l0.s0.f1 = l6.f1;
+            l0.s0.f2 = l6.f2;
+            l0.s0.f3 = l6.f3;
             return l0;
         }
         l5 = (uint64_t)((uint64_t)l5 + (uint64_t)UINT64_C(1));
@@ -10197,36 +9553,28 @@ static inline uint16_t directory__rows__look(rt_slice l1, uint64_t l2)
 static inline void directory__rows__put_row(rt_slice l1, uint64_t l2, struct directory__Row l3)
 {
     uint64_t l4;
-    uint16_t l5;
     uint64_t l6;
     uint8_t *l7;
-    uint16_t l8;
     uint64_t l9;
     uint8_t *l10;
-    uint16_t l11;
     uint8_t *l12;
-    uint16_t l13;
     uint8_t *l14;
     l4 = (uint64_t)((uint64_t)UINT64_C(4) * (uint64_t)l2);
-    l5 = l3.f0;
     l6 = (uint64_t)((uint64_t)l4 * (uint64_t)UINT64_C(2));
     l7 = l1.p + (size_t)l6;
-    (*(uint16_t *)l7) = l5;
-    l8 = l3.f1;
+    (*(uint16_t *)l7) = l3.f0;
     l6 = (uint64_t)((uint64_t)l4 + (uint64_t)UINT64_C(1));
     l9 = (uint64_t)((uint64_t)l6 * (uint64_t)UINT64_C(2));
     l10 = l1.p + (size_t)l9;
-    (*(uint16_t *)l10) = l8;
-    l11 = l3.f2;
+    (*(uint16_t *)l10) = l3.f1;
     l6 = (uint64_t)((uint64_t)l4 + (uint64_t)UINT64_C(2));
     l9 = (uint64_t)((uint64_t)l6 * (uint64_t)UINT64_C(2));
     l12 = l1.p + (size_t)l9;
-    (*(uint16_t *)l12) = l11;
-    l13 = l3.f3;
+    (*(uint16_t *)l12) = l3.f2;
     l6 = (uint64_t)((uint64_t)l4 + (uint64_t)UINT64_C(3));
     l9 = (uint64_t)((uint64_t)l6 * (uint64_t)UINT64_C(2));
     l14 = l1.p + (size_t)l9;
-    (*(uint16_t *)l14) = l13;
+    (*(uint16_t *)l14) = l3.f3;
     return;
 }
 
@@ -10272,13 +9620,10 @@ static inline uint8_t directory__rows__there(rt_slice l1, uint8_t l2, uint8_t l3
 static inline struct emit__Put emit__exprs__expr(rt_slice l1, rt_slice l2, uint64_t l3, uint64_t l4, rt_slice l5, uint64_t l6)
 {
     struct emit__Put l0;
-    uint8_t l7;
     struct emit__Put l8;
     uint64_t l9;
     uint64_t l10;
     struct emit__Put l11;
-    uint64_t l12;
-    uint64_t l13;
     struct emit__Put l14;
     uint64_t l15;
     uint8_t *l16;
@@ -10316,8 +9661,7 @@ static inline struct emit__Put emit__exprs__expr(rt_slice l1, rt_slice l2, uint6
     rt_slice l49;
     l16 = l1.p + (size_t)l3;
     l17 = (*(uint8_t *)l16);
-    l7 = l17;
-    switch (l7) {
+    switch (l17) {
         case UINT8_C(16): {
             l19 = (uint64_t)((uint64_t)l3 + (uint64_t)UINT64_C(1));
             l20 = (uint64_t)((uint64_t)l4 - (uint64_t)UINT64_C(1));
@@ -10351,14 +9695,14 @@ static inline struct emit__Put emit__exprs__expr(rt_slice l1, rt_slice l2, uint6
             break;
         }
         default: {
-            l33 = (uint8_t)(l7 < UINT8_C(24));
+            l33 = (uint8_t)(l17 < UINT8_C(24));
             if (l33) {
                 l10 = emit__words__leaf(l1, l3);
                 l35 = (uint8_t *)&(*(uint64_t *)l5.p);
                 l36.p = l35;
                 l36.n = l5.n;
                 emit__words__store(l36, l6, l10);
-                l37 = emit__words__leaf_size(l7);
+                l37 = emit__words__leaf_size(l17);
                 l38 = (uint64_t)((uint64_t)l3 + (uint64_t)l37);
                 l39 = (uint64_t)((uint64_t)l6 + (uint64_t)UINT64_C(1));
                 l18.f0 = l38;
@@ -10371,15 +9715,13 @@ static inline struct emit__Put emit__exprs__expr(rt_slice l1, rt_slice l2, uint6
             l43.p = l42;
             l43.n = l5.n;
             l11 = emit__exprs__expr(l1, l2, l40, l41, l43, l6);
-            l12 = l11.f0;
-            l13 = l11.f1;
             l40 = (uint64_t)((uint64_t)l4 - (uint64_t)UINT64_C(1));
             l44 = (uint8_t *)&(*(uint64_t *)l5.p);
             l45.p = l44;
             l45.n = l5.n;
-            l14 = emit__exprs__expr(l1, l2, l12, l40, l45, l13);
+            l14 = emit__exprs__expr(l1, l2, l11.f0, l40, l45, l11.f1);
             l46.tag = UINT8_C(7);
-            l47 = core__convert__U64FromU8__from(l7);
+            l47 = core__convert__U64FromU8__from(l17);
             l15 = emit__words__coded(l46, UINT64_C(0), l47);
             l48 = (uint8_t *)&(*(uint64_t *)l5.p);
             l49.p = l48;
@@ -10466,14 +9808,12 @@ static inline struct emit__Put emit__stmts__block(rt_slice l1, rt_slice l2, uint
 {
     struct emit__Put l0;
     struct emit__Put l7;
-    uint64_t l8;
     uint64_t l9;
     uint64_t l10;
     uint8_t *l11;
     rt_slice l12;
     uint64_t l13;
     struct commands__kind__Kind l14;
-    uint64_t l15;
     uint8_t *l17;
     rt_slice l18;
     l11 = (uint8_t *)&(*(uint64_t *)l5.p);
@@ -10481,12 +9821,10 @@ static inline struct emit__Put emit__stmts__block(rt_slice l1, rt_slice l2, uint
     l12.n = l5.n;
     l13 = (uint64_t)((uint64_t)l6 + (uint64_t)UINT64_C(1));
     l7 = emit__stmts__body(l1, l2, l3, l4, l12, l13);
-    l8 = l7.f1;
-    l13 = (uint64_t)((uint64_t)l8 - (uint64_t)l6);
+    l13 = (uint64_t)((uint64_t)l7.f1 - (uint64_t)l6);
     l9 = (uint64_t)((uint64_t)l13 - (uint64_t)UINT64_C(1));
     l14.tag = UINT8_C(5);
-    l15 = l9;
-    l10 = emit__words__coded(l14, UINT64_C(0), l15);
+    l10 = emit__words__coded(l14, UINT64_C(0), l9);
     l17 = (uint8_t *)&(*(uint64_t *)l5.p);
     l18.p = l17;
     l18.n = l5.n;
@@ -10499,7 +9837,6 @@ static inline struct emit__Put emit__stmts__block(rt_slice l1, rt_slice l2, uint
 static inline struct emit__Put emit__stmts__body(rt_slice l1, rt_slice l2, uint64_t l3, uint64_t l4, rt_slice l5, uint64_t l6)
 {
     struct emit__Put l0;
-    uint8_t l7;
     struct emit__Put l8;
     uint8_t l9;
     uint8_t *l10;
@@ -10510,13 +9847,12 @@ static inline struct emit__Put emit__stmts__body(rt_slice l1, rt_slice l2, uint6
     rt_slice l15;
     l10 = l1.p + (size_t)l3;
     l11 = (*(uint8_t *)l10);
-    l7 = l11;
     l12 = (uint64_t)((uint64_t)l3 + (uint64_t)UINT64_C(1));
     l8.f0 = l12;
     l8.f1 = l6;
     l9 = UINT8_C(0);
     for (;;) {
-        l13 = (uint8_t)(l9 < l7);
+        l13 = (uint8_t)(l9 < l11);
         if (l13) {
         } else {
             goto end1;
@@ -10578,7 +9914,6 @@ static inline struct emit__Put emit__stmts__declare(rt_slice l1, rt_slice l2, ui
 static inline struct emit__Put emit__stmts__stmt(rt_slice l1, rt_slice l2, uint64_t l3, uint64_t l4, rt_slice l5, uint64_t l6)
 {
     struct emit__Put l0;
-    uint8_t l7;
     uint8_t *l8;
     uint8_t l9;
     struct emit__Put l10;
@@ -10597,8 +9932,7 @@ static inline struct emit__Put emit__stmts__stmt(rt_slice l1, rt_slice l2, uint6
     rt_slice l23;
     l8 = l1.p + (size_t)l3;
     l9 = (*(uint8_t *)l8);
-    l7 = l9;
-    switch (l7) {
+    switch (l9) {
         case UINT8_C(1): {
             l11 = (uint64_t)((uint64_t)l3 + (uint64_t)UINT64_C(1));
             l12 = (uint64_t)((uint64_t)l4 - (uint64_t)UINT64_C(1));
@@ -10643,7 +9977,6 @@ static inline struct emit__Put emit__stmts__update(rt_slice l1, rt_slice l2, uin
     struct emit__Put l0;
     uint64_t l6;
     struct emit__Put l7;
-    uint64_t l8;
     struct emit__Put l9;
     uint8_t *l10;
     uint8_t l11;
@@ -10662,11 +9995,10 @@ static inline struct emit__Put emit__stmts__update(rt_slice l1, rt_slice l2, uin
     l15.p = l14;
     l15.n = l4.n;
     l7 = emit__exprs__expr(l1, l2, l13, UINT64_C(16), l15, l5);
-    l8 = l7.f1;
     l16 = (uint8_t *)&(*(uint64_t *)l4.p);
     l17.p = l16;
     l17.n = l4.n;
-    l9 = emit__words__target(l1, l3, l17, l8);
+    l9 = emit__words__target(l1, l3, l17, l7.f1);
     l0.f0 = l7.f0;
     l0.f1 = l9.f1;
     return l0;
@@ -10676,8 +10008,6 @@ static inline struct emit__Put emit__stmts__when(rt_slice l1, rt_slice l2, uint6
 {
     struct emit__Put l0;
     struct emit__Put l7;
-    uint64_t l8;
-    uint64_t l9;
     uint8_t *l10;
     rt_slice l11;
     uint8_t *l12;
@@ -10686,28 +10016,24 @@ static inline struct emit__Put emit__stmts__when(rt_slice l1, rt_slice l2, uint6
     l11.p = l10;
     l11.n = l5.n;
     l7 = emit__exprs__expr(l1, l2, l3, UINT64_C(16), l11, l6);
-    l8 = l7.f0;
-    l9 = l7.f1;
     l12 = (uint8_t *)&(*(uint64_t *)l5.p);
     l13.p = l12;
     l13.n = l5.n;
-    l0 = emit__stmts__block(l1, l2, l8, l4, l13, l9);
+    l0 = emit__stmts__block(l1, l2, l7.f0, l4, l13, l7.f1);
     return l0;
 }
 
 static inline struct emit__Put emit__words__add(rt_slice l1, struct emit__Put l2, uint64_t l3)
 {
     struct emit__Put l0;
-    uint64_t l4;
     uint8_t *l6;
     rt_slice l7;
     uint64_t l8;
-    l4 = l2.f1;
     l6 = (uint8_t *)&(*(uint64_t *)l1.p);
     l7.p = l6;
     l7.n = l1.n;
-    emit__words__store(l7, l4, l3);
-    l8 = (uint64_t)((uint64_t)l4 + (uint64_t)UINT64_C(1));
+    emit__words__store(l7, l2.f1, l3);
+    l8 = (uint64_t)((uint64_t)l2.f1 + (uint64_t)UINT64_C(1));
     l0.f0 = l2.f0;
     l0.f1 = l8;
     return l0;
@@ -10731,9 +10057,7 @@ static inline uint64_t emit__words__coded(struct commands__kind__Kind l1, uint64
 static inline uint64_t emit__words__leaf(rt_slice l1, uint64_t l2)
 {
     uint64_t l0;
-    uint8_t l3;
     uint64_t l4;
-    uint8_t l5;
     uint8_t *l6;
     uint8_t l7;
     uint8_t l8;
@@ -10751,32 +10075,30 @@ static inline uint64_t emit__words__leaf(rt_slice l1, uint64_t l2)
     struct commands__kind__Kind l20;
     l6 = l1.p + (size_t)l2;
     l7 = (*(uint8_t *)l6);
-    l3 = l7;
-    l8 = (uint8_t)(l3 < UINT8_C(21));
+    l8 = (uint8_t)(l7 < UINT8_C(21));
     if (l8) {
         l9 = (uint64_t)((uint64_t)l2 + (uint64_t)UINT64_C(1));
         l4 = little_endian__word_at(l1, l9);
         l10.tag = UINT8_C(0);
-        l12 = (uint8_t)((uint32_t)l3 - (uint32_t)UINT8_C(19));
+        l12 = (uint8_t)((uint32_t)l7 - (uint32_t)UINT8_C(19));
         l11 = core__convert__U64FromU8__from(l12);
         l0 = emit__words__coded(l10, l11, l4);
         return l0;
     }
-    l8 = (uint8_t)(l3 < UINT8_C(23));
+    l8 = (uint8_t)(l7 < UINT8_C(23));
     if (l8) {
         l13 = (uint64_t)((uint64_t)l2 + (uint64_t)UINT64_C(1));
         l14 = l1.p + (size_t)l13;
         l15 = (*(uint8_t *)l14);
-        l5 = l15;
-        l16 = (uint8_t)(l3 < UINT8_C(22));
+        l16 = (uint8_t)(l7 < UINT8_C(22));
         if (l16) {
             l17.tag = UINT8_C(0);
             l18 = core__convert__U64FromU8__from(UINT8_C(2));
-            l19 = core__convert__U64FromU8__from(l5);
+            l19 = core__convert__U64FromU8__from(l15);
             l0 = emit__words__coded(l17, l18, l19);
             return l0;
         }
-        l0 = emit__words__null_word(l5);
+        l0 = emit__words__null_word(l15);
         return l0;
     }
     l20.tag = UINT8_C(1);
@@ -10820,7 +10142,6 @@ static inline uint64_t emit__words__null_word(uint8_t l1)
 static inline struct emit__Put emit__words__path(rt_slice l1, uint64_t l2, rt_slice l3, uint64_t l4)
 {
     struct emit__Put l0;
-    uint8_t l5;
     uint64_t l6;
     uint8_t *l7;
     uint8_t l8;
@@ -10833,7 +10154,6 @@ static inline struct emit__Put emit__words__path(rt_slice l1, uint64_t l2, rt_sl
     uint64_t l16;
     l7 = l1.p + (size_t)l2;
     l8 = (*(uint8_t *)l7);
-    l5 = l8;
     l9.tag = UINT8_C(1);
     l6 = emit__words__coded(l9, UINT64_C(0), UINT64_C(0));
     l11 = (uint8_t *)&(*(uint64_t *)l3.p);
@@ -10845,7 +10165,7 @@ static inline struct emit__Put emit__words__path(rt_slice l1, uint64_t l2, rt_sl
     l15.p = l14;
     l15.n = l3.n;
     l16 = (uint64_t)((uint64_t)l4 + (uint64_t)UINT64_C(1));
-    l0 = emit__words__reads(l1, l13, l5, l15, l16);
+    l0 = emit__words__reads(l1, l13, l8, l15, l16);
     return l0;
 }
 
@@ -10914,8 +10234,6 @@ static RT_HERE struct emit__Put emit__words__target(rt_slice l1, uint64_t l2, rt
     uint8_t l5;
     uint64_t l6;
     struct emit__Put l7;
-    uint64_t l8;
-    uint64_t l9;
     uint64_t l10;
     uint8_t *l11;
     uint8_t l12;
@@ -10946,19 +10264,17 @@ static RT_HERE struct emit__Put emit__words__target(rt_slice l1, uint64_t l2, rt
     l19.n = l3.n;
     l20 = (uint64_t)((uint64_t)l4 + (uint64_t)UINT64_C(1));
     l7 = emit__words__reads(l1, l17, l12, l19, l20);
-    l8 = l7.f0;
-    l9 = l7.f1;
     l13.tag = UINT8_C(3);
-    l22 = l1.p + (size_t)l8;
+    l22 = l1.p + (size_t)l7.f0;
     l12 = (*(uint8_t *)l22);
     l21 = core__convert__U64FromU8__from(l12);
     l10 = emit__words__coded(l13, UINT64_C(0), l21);
     l23 = (uint8_t *)&(*(uint64_t *)l3.p);
     l24.p = l23;
     l24.n = l3.n;
-    emit__words__store(l24, l9, l10);
-    l20 = (uint64_t)((uint64_t)l8 + (uint64_t)UINT64_C(1));
-    l17 = (uint64_t)((uint64_t)l9 + (uint64_t)UINT64_C(1));
+    emit__words__store(l24, l7.f1, l10);
+    l20 = (uint64_t)((uint64_t)l7.f0 + (uint64_t)UINT64_C(1));
+    l17 = (uint64_t)((uint64_t)l7.f1 + (uint64_t)UINT64_C(1));
     l0.f0 = l20;
     l0.f1 = l17;
     return l0;
@@ -10967,8 +10283,6 @@ static RT_HERE struct emit__Put emit__words__target(rt_slice l1, uint64_t l2, rt
 static RT_HERE struct emit__Put emit_steps__of_struct(rt_slice l1, rt_slice l2, struct emit__Put l3, rt_slice l4)
 {
     struct emit__Put l0;
-    uint64_t l5;
-    uint8_t l6;
     struct emit__Put l7;
     uint8_t l8;
     uint8_t *l9;
@@ -10977,16 +10291,14 @@ static RT_HERE struct emit__Put emit_steps__of_struct(rt_slice l1, rt_slice l2, 
     uint8_t l12;
     uint8_t *l13;
     rt_slice l14;
-    l5 = l3.f0;
-    l9 = l1.p + (size_t)l5;
+    l9 = l1.p + (size_t)l3.f0;
     l10 = (*(uint8_t *)l9);
-    l6 = l10;
-    l11 = (uint64_t)((uint64_t)l5 + (uint64_t)UINT64_C(1));
+    l11 = (uint64_t)((uint64_t)l3.f0 + (uint64_t)UINT64_C(1));
     l7.f0 = l11;
     l7.f1 = l3.f1;
     l8 = UINT8_C(0);
     for (;;) {
-        l12 = (uint8_t)(l8 < l6);
+        l12 = (uint8_t)(l8 < l10);
         if (l12) {
         } else {
             goto end1;
@@ -11005,18 +10317,16 @@ end1:;
 
 static inline void emit_steps__program(rt_slice l1, rt_slice l2, uint64_t l3, rt_slice l4)
 {
-    uint64_t l5;
     struct emit__Put l6;
     uint64_t l7;
     uint8_t l8;
     uint8_t *l9;
     rt_slice l10;
-    l5 = l2.n;
     l6.f0 = l3;
     l6.f1 = UINT64_C(0);
     l7 = UINT64_C(0);
     for (;;) {
-        l8 = (uint8_t)(l7 < l5);
+        l8 = (uint8_t)(l7 < l2.n);
         if (l8) {
         } else {
             goto end1;
@@ -11134,9 +10444,7 @@ static RT_HERE struct layout__Numbers engine__after(struct layout__Numbers l1, s
 {
     struct layout__Numbers l0;
     struct layout__Numbers l3;
-    uint8_t l4;
     uint64_t l5;
-    struct types__refusal__Refusal l6;
     uint64_t l7;
     uint8_t l8;
     l3.f0 = l1.f0;
@@ -11153,8 +10461,7 @@ static RT_HERE struct layout__Numbers engine__after(struct layout__Numbers l1, s
                     break;
                 }
                 case UINT8_C(1): {
-                    l4 = l2.s0.s0;
-                    l7 = core__convert__others__UsizeFromBool__from(l4);
+                    l7 = core__convert__others__UsizeFromBool__from(l2.s0.s0);
                     l5 = (uint64_t)((uint64_t)l1.f3 * (uint64_t)l7);
                     l3.f3 = l5;
                     break;
@@ -11168,8 +10475,7 @@ static RT_HERE struct layout__Numbers engine__after(struct layout__Numbers l1, s
             break;
         }
         case UINT8_C(1): default: {
-            l6 = l2.s1;
-            l8 = types__refusal__U8FromRefusal__from(l6);
+            l8 = types__refusal__U8FromRefusal__from(l2.s1);
             l3.f4 = l8;
             break;
         }
@@ -11261,24 +10567,20 @@ static inline struct core__result__Result__Effect_Refusal execute__perform(rt_sl
     rt_slice l29;
     uint8_t *l30;
     rt_slice l31;
-    uint64_t l32;
     struct execute_stack__Effect l33;
     uint8_t *l34;
     rt_slice l35;
     uint8_t *l36;
     rt_slice l37;
-    uint64_t l38;
     uint8_t *l39;
     rt_slice l40;
     uint8_t *l41;
     rt_slice l42;
-    uint64_t l43;
     struct execute_stack__Effect l44;
     uint8_t *l45;
     rt_slice l46;
     uint8_t *l47;
     rt_slice l48;
-    uint64_t l49;
     struct execute_stack__Effect l50;
     uint8_t *l51;
     rt_slice l52;
@@ -11334,8 +10636,7 @@ static inline struct core__result__Result__Effect_Refusal execute__perform(rt_sl
             l30 = (uint8_t *)&(*(uint64_t *)l3.p);
             l31.p = l30;
             l31.n = l3.n;
-            l32 = l8;
-            l27 = execute_variables__read(l29, l31, l7, l32);
+            l27 = execute_variables__read(l29, l31, l7, l8);
             l16.tag = UINT8_C(0);
             l16.s0 = l27;
             break;
@@ -11347,8 +10648,7 @@ static inline struct core__result__Result__Effect_Refusal execute__perform(rt_sl
             l36 = (uint8_t *)&(*(uint64_t *)l3.p);
             l37.p = l36;
             l37.n = l3.n;
-            l38 = l8;
-            l33 = execute_variables__write(l1, l35, l37, l7, l38);
+            l33 = execute_variables__write(l1, l35, l37, l7, l8);
             l16.tag = UINT8_C(0);
             l16.s0 = l33;
             break;
@@ -11360,8 +10660,7 @@ static inline struct core__result__Result__Effect_Refusal execute__perform(rt_sl
             l41 = (uint8_t *)&(*(uint64_t *)l3.p);
             l42.p = l41;
             l42.n = l3.n;
-            l43 = l8;
-            l16 = execute_construct__construct(l1, l40, l42, l7, l5, l43);
+            l16 = execute_construct__construct(l1, l40, l42, l7, l5, l8);
             break;
         }
         case UINT64_C(6): {
@@ -11371,8 +10670,7 @@ static inline struct core__result__Result__Effect_Refusal execute__perform(rt_sl
             l47 = (uint8_t *)&(*(uint64_t *)l3.p);
             l48.p = l47;
             l48.n = l3.n;
-            l49 = l8;
-            l44 = execute_stack__branch(l46, l48, l7, l49);
+            l44 = execute_stack__branch(l46, l48, l7, l8);
             l16.tag = UINT8_C(0);
             l16.s0 = l44;
             break;
@@ -11408,7 +10706,6 @@ static inline struct core__result__Result__Effect_Refusal execute__perform(rt_sl
 static inline struct core__result__Result__Effect_Refusal execute_construct__construct(rt_slice l1, rt_slice l2, rt_slice l3, struct execute_stack__Actor l4, uint64_t l5, uint64_t l6)
 {
     struct core__result__Result__Effect_Refusal l0;
-    uint64_t l7;
     uint64_t l8;
     uint64_t l9;
     uint64_t l10;
@@ -11425,7 +10722,6 @@ static inline struct core__result__Result__Effect_Refusal execute_construct__con
     uint8_t *l22;
     rt_slice l23;
     uint8_t l24;
-    uint64_t l25;
     uint8_t *l26;
     rt_slice l27;
     uint8_t *l28;
@@ -11438,12 +10734,11 @@ static inline struct core__result__Result__Effect_Refusal execute_construct__con
         l0.s1 = l13;
         return l0;
     }
-    l7 = l4.f0;
     l14 = l1.p + (size_t)l6;
     l15 = (*(uint8_t *)l14);
     l8 = (uint64_t)l15;
     l9 = (uint64_t)((uint64_t)l4.f1 - (uint64_t)l8);
-    l16 = (uint64_t)((uint64_t)UINT64_C(32) * (uint64_t)l7);
+    l16 = (uint64_t)((uint64_t)UINT64_C(32) * (uint64_t)l4.f0);
     l17 = (uint64_t)((uint64_t)l16 + (uint64_t)UINT64_C(16));
     l10 = (uint64_t)((uint64_t)l17 + (uint64_t)l9);
     l19 = (uint8_t *)&(*(uint64_t *)l3.p);
@@ -11460,8 +10755,7 @@ static inline struct core__result__Result__Effect_Refusal execute_construct__con
     layout__seat(l23, l5, l6);
     l15 = (uint8_t)l6;
     l24 = (uint8_t)((uint32_t)UINT8_C(16) + (uint32_t)l15);
-    l25 = l5;
-    l11 = layout__cell(l24, l25);
+    l11 = layout__cell(l24, l5);
     l26 = (uint8_t *)&(*(uint16_t *)l2.p);
     l27.p = l26;
     l27.n = l2.n;
@@ -11469,7 +10763,7 @@ static inline struct core__result__Result__Effect_Refusal execute_construct__con
     l29.p = l28;
     l29.n = l3.n;
     l17 = (uint64_t)((uint64_t)l4.f2 + (uint64_t)UINT64_C(1));
-    execute_stack__put(l27, l29, l7, l9, l11, l17);
+    execute_stack__put(l27, l29, l4.f0, l9, l11, l17);
     l30.tag = UINT8_C(2);
     l0.tag = UINT8_C(0);
     l0.s0 = l30;
@@ -11479,15 +10773,11 @@ static inline struct core__result__Result__Effect_Refusal execute_construct__con
 static inline struct core__result__Result__Effect_Refusal execute_operator__operate(rt_slice l1, rt_slice l2, struct execute_stack__Actor l3, uint8_t l4)
 {
     struct core__result__Result__Effect_Refusal l0;
-    uint64_t l5;
-    uint64_t l6;
     uint64_t l7;
     uint64_t l8;
     uint8_t l9;
     struct core__result__Result__u32_OperatorError l10;
-    uint32_t l11;
     uint64_t l12;
-    struct operators__OperatorError l13;
     uint64_t l14;
     uint64_t l15;
     uint64_t l16;
@@ -11512,19 +10802,17 @@ static inline struct core__result__Result__Effect_Refusal execute_operator__oper
     struct core__result__Result__Effect_Refusal l36;
     struct types__refusal__Refusal l37;
     struct execute_stack__Effect l38;
-    l5 = l3.f0;
-    l6 = l3.f1;
-    l14 = (uint64_t)((uint64_t)UINT64_C(32) * (uint64_t)l5);
+    l14 = (uint64_t)((uint64_t)UINT64_C(32) * (uint64_t)l3.f0);
     l15 = (uint64_t)((uint64_t)l14 + (uint64_t)UINT64_C(16));
-    l16 = (uint64_t)((uint64_t)l6 - (uint64_t)UINT64_C(2));
+    l16 = (uint64_t)((uint64_t)l3.f1 - (uint64_t)UINT64_C(2));
     l17 = (uint64_t)((uint64_t)l15 + (uint64_t)l16);
     l18 = (uint64_t)((uint64_t)l17 * (uint64_t)UINT64_C(8));
     l19 = l2.p + (size_t)l18;
     l20 = (*(uint64_t *)l19);
     l7 = l20;
-    l14 = (uint64_t)((uint64_t)UINT64_C(32) * (uint64_t)l5);
+    l14 = (uint64_t)((uint64_t)UINT64_C(32) * (uint64_t)l3.f0);
     l15 = (uint64_t)((uint64_t)l14 + (uint64_t)UINT64_C(16));
-    l18 = (uint64_t)((uint64_t)l6 - (uint64_t)UINT64_C(1));
+    l18 = (uint64_t)((uint64_t)l3.f1 - (uint64_t)UINT64_C(1));
     l17 = (uint64_t)((uint64_t)l15 + (uint64_t)l18);
     l16 = (uint64_t)((uint64_t)l17 * (uint64_t)UINT64_C(8));
     l21 = l2.p + (size_t)l16;
@@ -11538,9 +10826,8 @@ static inline struct core__result__Result__Effect_Refusal execute_operator__oper
     l10 = arithmetic__apply_word(l4, l9, l22, l24);
     switch (l10.tag) {
         case UINT8_C(0): {
-            l11 = l10.s0;
             l26 = execute_operator__result_byte(l4, l9);
-            l27 = (uint64_t)l11;
+            l27 = (uint64_t)l10.s0;
             l12 = layout__cell(l26, l27);
             l29 = (uint8_t *)&(*(uint16_t *)l1.p);
             l30.p = l29;
@@ -11548,17 +10835,16 @@ static inline struct core__result__Result__Effect_Refusal execute_operator__oper
             l31 = (uint8_t *)&(*(uint64_t *)l2.p);
             l32.p = l31;
             l32.n = l2.n;
-            l33 = (uint64_t)((uint64_t)l6 - (uint64_t)UINT64_C(2));
+            l33 = (uint64_t)((uint64_t)l3.f1 - (uint64_t)UINT64_C(2));
             l34 = (uint64_t)((uint64_t)l3.f2 + (uint64_t)UINT64_C(1));
-            execute_stack__put(l30, l32, l5, l33, l12, l34);
+            execute_stack__put(l30, l32, l3.f0, l33, l12, l34);
             l35.tag = UINT8_C(0);
             l25.tag = UINT8_C(0);
             l25.s0 = l35;
             break;
         }
         case UINT8_C(1): default: {
-            l13 = l10.s1;
-            switch (l13.tag) {
+            switch (l10.s1.tag) {
                 case UINT8_C(0): {
                     l37.tag = UINT8_C(26);
                     l36.tag = UINT8_C(1);
@@ -11605,7 +10891,6 @@ end1:;
 static inline struct execute_stack__Effect execute_stack__branch(rt_slice l1, rt_slice l2, struct execute_stack__Actor l3, uint64_t l4)
 {
     struct execute_stack__Effect l0;
-    uint64_t l5;
     uint64_t l6;
     uint64_t l7;
     uint64_t l8;
@@ -11621,9 +10906,8 @@ static inline struct execute_stack__Effect execute_stack__branch(rt_slice l1, rt
     uint64_t l19;
     uint8_t *l21;
     rt_slice l22;
-    l5 = l3.f0;
     l6 = (uint64_t)((uint64_t)l3.f1 - (uint64_t)UINT64_C(1));
-    l8 = (uint64_t)((uint64_t)UINT64_C(32) * (uint64_t)l5);
+    l8 = (uint64_t)((uint64_t)UINT64_C(32) * (uint64_t)l3.f0);
     l9 = (uint64_t)((uint64_t)l8 + (uint64_t)UINT64_C(16));
     l10 = (uint64_t)((uint64_t)l9 + (uint64_t)l6);
     l11 = (uint64_t)((uint64_t)l10 * (uint64_t)UINT64_C(8));
@@ -11638,7 +10922,7 @@ static inline struct execute_stack__Effect execute_stack__branch(rt_slice l1, rt
         l17.n = l1.n;
         l18 = (uint64_t)((uint64_t)l3.f2 + (uint64_t)UINT64_C(1));
         l19 = (uint64_t)((uint64_t)l18 + (uint64_t)l4);
-        layout__go(l17, l5, l6, l19);
+        layout__go(l17, l3.f0, l6, l19);
         l0.tag = UINT8_C(0);
         return l0;
     }
@@ -11646,7 +10930,7 @@ static inline struct execute_stack__Effect execute_stack__branch(rt_slice l1, rt
     l22.p = l21;
     l22.n = l1.n;
     l8 = (uint64_t)((uint64_t)l3.f2 + (uint64_t)UINT64_C(1));
-    layout__go(l22, l5, l6, l8);
+    layout__go(l22, l3.f0, l6, l8);
     l0.tag = UINT8_C(0);
     return l0;
 }
@@ -11654,7 +10938,6 @@ static inline struct execute_stack__Effect execute_stack__branch(rt_slice l1, rt
 static inline struct execute_stack__Effect execute_stack__negate(rt_slice l1, rt_slice l2, struct execute_stack__Actor l3)
 {
     struct execute_stack__Effect l0;
-    uint64_t l4;
     uint64_t l5;
     uint64_t l6;
     uint64_t l7;
@@ -11669,9 +10952,8 @@ static inline struct execute_stack__Effect execute_stack__negate(rt_slice l1, rt
     rt_slice l17;
     uint8_t *l18;
     rt_slice l19;
-    l4 = l3.f0;
     l5 = (uint64_t)((uint64_t)l3.f1 - (uint64_t)UINT64_C(1));
-    l8 = (uint64_t)((uint64_t)UINT64_C(32) * (uint64_t)l4);
+    l8 = (uint64_t)((uint64_t)UINT64_C(32) * (uint64_t)l3.f0);
     l9 = (uint64_t)((uint64_t)l8 + (uint64_t)UINT64_C(16));
     l10 = (uint64_t)((uint64_t)l9 + (uint64_t)l5);
     l11 = (uint64_t)((uint64_t)l10 * (uint64_t)UINT64_C(8));
@@ -11688,7 +10970,7 @@ static inline struct execute_stack__Effect execute_stack__negate(rt_slice l1, rt
     l19.p = l18;
     l19.n = l2.n;
     l8 = (uint64_t)((uint64_t)l3.f2 + (uint64_t)UINT64_C(1));
-    execute_stack__put(l17, l19, l4, l5, l7, l8);
+    execute_stack__put(l17, l19, l3.f0, l5, l7, l8);
     l0.tag = UINT8_C(0);
     return l0;
 }
@@ -11716,28 +10998,24 @@ static inline struct execute_stack__Effect execute_stack__push(rt_slice l1, rt_s
 static inline struct execute_stack__Effect execute_stack__push_this(rt_slice l1, rt_slice l2, struct execute_stack__Actor l3)
 {
     struct execute_stack__Effect l0;
-    uint64_t l4;
     uint64_t l5;
     uint64_t l6;
     uint8_t *l7;
     rt_slice l8;
     uint8_t l9;
     uint8_t l10;
-    uint64_t l11;
     uint8_t *l13;
     rt_slice l14;
     uint8_t *l15;
     rt_slice l16;
     uint64_t l17;
-    l4 = l3.f0;
     l7 = (uint8_t *)&(*(uint16_t *)l1.p);
     l8.p = l7;
     l8.n = l1.n;
-    l5 = layout__head(l8, l4, UINT64_C(0));
+    l5 = layout__head(l8, l3.f0, UINT64_C(0));
     l9 = (uint8_t)l5;
     l10 = (uint8_t)((uint32_t)UINT8_C(16) + (uint32_t)l9);
-    l11 = l4;
-    l6 = layout__cell(l10, l11);
+    l6 = layout__cell(l10, l3.f0);
     l13 = (uint8_t *)&(*(uint16_t *)l1.p);
     l14.p = l13;
     l14.n = l1.n;
@@ -11745,7 +11023,7 @@ static inline struct execute_stack__Effect execute_stack__push_this(rt_slice l1,
     l16.p = l15;
     l16.n = l2.n;
     l17 = (uint64_t)((uint64_t)l3.f2 + (uint64_t)UINT64_C(1));
-    execute_stack__put(l14, l16, l4, l3.f1, l6, l17);
+    execute_stack__put(l14, l16, l3.f0, l3.f1, l6, l17);
     l0.tag = UINT8_C(0);
     return l0;
 }
@@ -11776,7 +11054,6 @@ static inline void execute_stack__put(rt_slice l1, rt_slice l2, uint64_t l3, uin
 static inline struct execute_stack__Effect execute_variables__read(rt_slice l1, rt_slice l2, struct execute_stack__Actor l3, uint64_t l4)
 {
     struct execute_stack__Effect l0;
-    uint64_t l5;
     uint64_t l6;
     uint64_t l7;
     uint64_t l8;
@@ -11792,9 +11069,8 @@ static inline struct execute_stack__Effect execute_variables__read(rt_slice l1, 
     rt_slice l19;
     uint8_t *l20;
     rt_slice l21;
-    l5 = l3.f0;
     l6 = (uint64_t)((uint64_t)l3.f1 - (uint64_t)UINT64_C(1));
-    l10 = (uint64_t)((uint64_t)UINT64_C(32) * (uint64_t)l5);
+    l10 = (uint64_t)((uint64_t)UINT64_C(32) * (uint64_t)l3.f0);
     l11 = (uint64_t)((uint64_t)l10 + (uint64_t)UINT64_C(16));
     l12 = (uint64_t)((uint64_t)l11 + (uint64_t)l6);
     l13 = (uint64_t)((uint64_t)l12 * (uint64_t)UINT64_C(8));
@@ -11816,7 +11092,7 @@ static inline struct execute_stack__Effect execute_variables__read(rt_slice l1, 
     l21.p = l20;
     l21.n = l2.n;
     l12 = (uint64_t)((uint64_t)l3.f2 + (uint64_t)UINT64_C(1));
-    execute_stack__put(l19, l21, l5, l6, l9, l12);
+    execute_stack__put(l19, l21, l3.f0, l6, l9, l12);
     l0.tag = UINT8_C(0);
     return l0;
 }
@@ -11847,8 +11123,6 @@ static inline struct execute_stack__Effect execute_variables__replace(rt_slice l
 static inline struct execute_stack__Effect execute_variables__write(rt_slice l1, rt_slice l2, rt_slice l3, struct execute_stack__Actor l4, uint64_t l5)
 {
     struct execute_stack__Effect l0;
-    uint64_t l6;
-    uint64_t l7;
     uint64_t l8;
     uint64_t l9;
     uint64_t l10;
@@ -11874,19 +11148,17 @@ static inline struct execute_stack__Effect execute_variables__write(rt_slice l1,
     rt_slice l31;
     uint64_t l32;
     uint8_t *l33;
-    l6 = l4.f0;
-    l7 = l4.f1;
-    l12 = (uint64_t)((uint64_t)UINT64_C(32) * (uint64_t)l6);
+    l12 = (uint64_t)((uint64_t)UINT64_C(32) * (uint64_t)l4.f0);
     l13 = (uint64_t)((uint64_t)l12 + (uint64_t)UINT64_C(16));
-    l14 = (uint64_t)((uint64_t)l7 - (uint64_t)UINT64_C(1));
+    l14 = (uint64_t)((uint64_t)l4.f1 - (uint64_t)UINT64_C(1));
     l15 = (uint64_t)((uint64_t)l13 + (uint64_t)l14);
     l16 = (uint64_t)((uint64_t)l15 * (uint64_t)UINT64_C(8));
     l17 = l3.p + (size_t)l16;
     l18 = (*(uint64_t *)l17);
     l8 = l18;
-    l12 = (uint64_t)((uint64_t)UINT64_C(32) * (uint64_t)l6);
+    l12 = (uint64_t)((uint64_t)UINT64_C(32) * (uint64_t)l4.f0);
     l13 = (uint64_t)((uint64_t)l12 + (uint64_t)UINT64_C(16));
-    l16 = (uint64_t)((uint64_t)l7 - (uint64_t)UINT64_C(2));
+    l16 = (uint64_t)((uint64_t)l4.f1 - (uint64_t)UINT64_C(2));
     l15 = (uint64_t)((uint64_t)l13 + (uint64_t)l16);
     l14 = (uint64_t)((uint64_t)l15 * (uint64_t)UINT64_C(8));
     l19 = l3.p + (size_t)l14;
@@ -11901,9 +11173,9 @@ static inline struct execute_stack__Effect execute_variables__write(rt_slice l1,
     l23 = (uint8_t *)&(*(uint16_t *)l2.p);
     l24.p = l23;
     l24.n = l2.n;
-    l12 = (uint64_t)((uint64_t)l7 - (uint64_t)UINT64_C(2));
+    l12 = (uint64_t)((uint64_t)l4.f1 - (uint64_t)UINT64_C(2));
     l13 = (uint64_t)((uint64_t)l4.f2 + (uint64_t)UINT64_C(1));
-    layout__go(l24, l6, l12, l13);
+    layout__go(l24, l4.f0, l12, l13);
     l25 = l1.p + (size_t)l11;
     l26 = (*(uint8_t *)l25);
     l14 = (uint64_t)l26;
@@ -12088,31 +11360,51 @@ static RT_HERE struct interpreter__turns__Going interpreter__turns__going_at(str
     struct interpreter__turns__Going l0;
     uint64_t l5;
     uint8_t l6;
-    struct layout__Numbers l7;
     uint8_t l8;
     uint64_t l9;
     uint8_t l10;
     uint8_t *l11;
     uint8_t l12;
     struct core__option__Option__u64 l13;
-    l7.f0 = l1.f0.f0;
-    l7.f1 = l1.f0.f1;
-    l7.f2 = l1.f0.f2;
-    l7.f3 = l1.f0.f3;
-    l7.f4 = l1.f0.f4;
-    l7.f5 = l1.f0.f5;
-    l7.f6 = l1.f0.f6;
-    l6 = layout__due(l7);
+    l6 = layout__due(l1.f0);
     l8 = (uint8_t)!l6;
     if (l8) {
-        l0 = interpreter__turns__resting(l1, l2, l3, l1.f0.f4);
+        {
+            struct interpreter__turns__Going r = interpreter__turns__resting(l1, l2, l3, l1.f0.f4);
+            l0.f0.f0.f0 = r.f0.f0.f0;
+            l0.f0.f0.f1 = r.f0.f0.f1;
+            l0.f0.f0.f2 = r.f0.f0.f2;
+            l0.f0.f0.f3 = r.f0.f0.f3;
+            l0.f0.f0.f4 = r.f0.f0.f4;
+            l0.f0.f0.f5 = r.f0.f0.f5;
+            l0.f0.f0.f6 = r.f0.f0.f6;
+            l0.f1 = r.f1;
+            l0.f2 = r.f2;
+            l0.f3.tag = r.f3.tag;
+            l0.f3.s0 = r.f3.s0;
+            l0.f4.f0 = r.f4.f0;
+        }
         return l0;
     }
     l9 = l4.n;
     l6 = (uint8_t)(l9 <= l2);
     if (l6) {
         l10 = UINT8_C(33);
-        l0 = interpreter__turns__resting(l1, l2, l3, l10);
+        {
+            struct interpreter__turns__Going r = interpreter__turns__resting(l1, l2, l3, l10);
+            l0.f0.f0.f0 = r.f0.f0.f0;
+            l0.f0.f0.f1 = r.f0.f0.f1;
+            l0.f0.f0.f2 = r.f0.f0.f2;
+            l0.f0.f0.f3 = r.f0.f0.f3;
+            l0.f0.f0.f4 = r.f0.f0.f4;
+            l0.f0.f0.f5 = r.f0.f0.f5;
+            l0.f0.f0.f6 = r.f0.f0.f6;
+            l0.f1 = r.f1;
+            l0.f2 = r.f2;
+            l0.f3.tag = r.f3.tag;
+            l0.f3.s0 = r.f3.s0;
+            l0.f4.f0 = r.f4.f0;
+        }
         return l0;
     }
     l11 = l4.p + (size_t)l2;
@@ -12121,11 +11413,17 @@ static RT_HERE struct interpreter__turns__Going interpreter__turns__going_at(str
     l9 = (uint64_t)((uint64_t)l5 % (uint64_t)l1.f0.f5);
     l13.tag = UINT8_C(1);
     l13.s0 = l9;
-    l0.f0 = l1;
+    l0.f0.f0.f0 = l1.f0.f0;
+    l0.f0.f0.f1 = l1.f0.f1;
+    l0.f0.f0.f2 = l1.f0.f2;
+    l0.f0.f0.f3 = l1.f0.f3;
+    l0.f0.f0.f4 = l1.f0.f4;
+    l0.f0.f0.f5 = l1.f0.f5;
+    l0.f0.f0.f6 = l1.f0.f6;
     l0.f1 = l2;
     l0.f2 = UINT8_C(0);
     l0.f3 = l13;
-    l0.f4 = l3;
+    l0.f4.f0 = l3.f0;
     return l0;
 }
 
@@ -12134,11 +11432,17 @@ static RT_HERE struct interpreter__turns__Going interpreter__turns__resting(stru
     struct interpreter__turns__Going l0;
     struct core__option__Option__u64 l5;
     l5.tag = UINT8_C(0);
-    l0.f0 = l1;
+    l0.f0.f0.f0 = l1.f0.f0;
+    l0.f0.f0.f1 = l1.f0.f1;
+    l0.f0.f0.f2 = l1.f0.f2;
+    l0.f0.f0.f3 = l1.f0.f3;
+    l0.f0.f0.f4 = l1.f0.f4;
+    l0.f0.f0.f5 = l1.f0.f5;
+    l0.f0.f0.f6 = l1.f0.f6;
     l0.f1 = l2;
     l0.f2 = l4;
     l0.f3 = l5;
-    l0.f4 = l3;
+    l0.f4.f0 = l3.f0;
     return l0;
 }
 
@@ -12283,7 +11587,13 @@ end1:;
     l12.f0.f6 = l8.f0.f0.f6;
     l39 = l8.f2;
     l40 = l8.f1;
-    l0.f0 = l12;
+    l0.f0.f0.f0 = l12.f0.f0;
+    l0.f0.f0.f1 = l12.f0.f1;
+    l0.f0.f0.f2 = l12.f0.f2;
+    l0.f0.f0.f3 = l12.f0.f3;
+    l0.f0.f0.f4 = l12.f0.f4;
+    l0.f0.f0.f5 = l12.f0.f5;
+    l0.f0.f0.f6 = l12.f0.f6;
     l0.f1 = l39;
     l0.f2 = l40;
     return l0;
@@ -12362,39 +11672,41 @@ end1:;
 static RT_HERE struct interpreter__turns__Going interpreter__turns__turn(struct interpreter__turns__Going l1, uint64_t l2, rt_slice l3, rt_slice l4, rt_slice l5, rt_slice l6, rt_slice l7)
 {
     struct interpreter__turns__Going l0;
-    struct engine__Machine l8;
     struct engine__Machine l9;
-    uint8_t l10;
     uint8_t l11;
     uint8_t *l12;
     rt_slice l13;
     uint8_t *l14;
     rt_slice l15;
     uint8_t l16;
-    struct holders__Record l17;
     uint8_t *l18;
     rt_slice l19;
     uint64_t l20;
     struct holders__Record l21;
-    l8.f0.f0 = l1.f0.f0.f0;
-    l8.f0.f1 = l1.f0.f0.f1;
-    l8.f0.f2 = l1.f0.f0.f2;
-    l8.f0.f3 = l1.f0.f0.f3;
-    l8.f0.f4 = l1.f0.f0.f4;
-    l8.f0.f5 = l1.f0.f0.f5;
-    l8.f0.f6 = l1.f0.f0.f6;
     l12 = (uint8_t *)&(*(uint16_t *)l5.p);
     l13.p = l12;
     l13.n = l5.n;
     l14 = (uint8_t *)&(*(uint64_t *)l6.p);
     l15.p = l14;
     l15.n = l6.n;
-    l9 = engine__Machine__command(l8, l3, l4, l13, l15, l2);
-    l10 = l9.f0.f4;
-    l16 = (uint8_t)(l10 != UINT8_C(0));
+    l9 = engine__Machine__command(l1.f0, l3, l4, l13, l15, l2);
+    l16 = (uint8_t)(l9.f0.f4 != UINT8_C(0));
     if (l16) {
-        l17.f0 = l1.f4.f0;
-        l0 = interpreter__turns__resting(l9, l1.f1, l17, l10);
+        {
+            struct interpreter__turns__Going r = interpreter__turns__resting(l9, l1.f1, l1.f4, l9.f0.f4);
+            l0.f0.f0.f0 = r.f0.f0.f0;
+            l0.f0.f0.f1 = r.f0.f0.f1;
+            l0.f0.f0.f2 = r.f0.f0.f2;
+            l0.f0.f0.f3 = r.f0.f0.f3;
+            l0.f0.f0.f4 = r.f0.f0.f4;
+            l0.f0.f0.f5 = r.f0.f0.f5;
+            l0.f0.f0.f6 = r.f0.f0.f6;
+            l0.f1 = r.f1;
+            l0.f2 = r.f2;
+            l0.f3.tag = r.f3.tag;
+            l0.f3.s0 = r.f3.s0;
+            l0.f4.f0 = r.f4.f0;
+        }
         return l0;
     }
     l18 = (uint8_t *)&(*(uint16_t *)l5.p);
@@ -12403,7 +11715,21 @@ static RT_HERE struct interpreter__turns__Going interpreter__turns__turn(struct 
     l11 = layout__holds(l19, l2);
     l20 = (uint64_t)((uint64_t)l1.f1 + (uint64_t)UINT64_C(1));
     l21.f0 = l11;
-    l0 = interpreter__turns__going_at(l9, l20, l21, l7);
+    {
+        struct interpreter__turns__Going r = interpreter__turns__going_at(l9, l20, l21, l7);
+        l0.f0.f0.f0 = r.f0.f0.f0;
+        l0.f0.f0.f1 = r.f0.f0.f1;
+        l0.f0.f0.f2 = r.f0.f0.f2;
+        l0.f0.f0.f3 = r.f0.f0.f3;
+        l0.f0.f0.f4 = r.f0.f0.f4;
+        l0.f0.f0.f5 = r.f0.f0.f5;
+        l0.f0.f0.f6 = r.f0.f0.f6;
+        l0.f1 = r.f1;
+        l0.f2 = r.f2;
+        l0.f3.tag = r.f3.tag;
+        l0.f3.s0 = r.f3.s0;
+        l0.f4.f0 = r.f4.f0;
+    }
     return l0;
 }
 
@@ -12671,10 +11997,8 @@ end1:;
 static inline uint8_t judging__fault__named(uint8_t l1)
 {
     uint8_t l0;
-    uint8_t l2;
     struct types__refusal__Refusal l3;
-    l2 = l1;
-    if (l2) {
+    if (l1) {
         l0 = UINT8_C(0);
         return l0;
     }
@@ -12824,7 +12148,6 @@ static inline struct judge__Done judging__statement__branched(struct judge__Scop
 {
     struct judge__Done l0;
     uint8_t l4;
-    struct judge__Scope l5;
     struct judge__Scope l6;
     uint8_t l7;
     uint64_t l8;
@@ -12833,10 +12156,8 @@ static inline struct judge__Done judging__statement__branched(struct judge__Scop
     uint8_t l11;
     l7 = (uint8_t)(l2.f3 == UINT8_C(2));
     l4 = judging__fault__demand(l2.f2, l7);
-    l5.f0 = l3.f4.f0;
-    l5.f1 = l3.f4.f1;
     l6.f0 = l1.f0;
-    l6.f1 = l5.f1;
+    l6.f1 = l3.f4.f1;
     l8 = (uint64_t)((uint64_t)l2.f0 + (uint64_t)l3.f0);
     l9 = (uint64_t)((uint64_t)l8 + (uint64_t)UINT64_C(1));
     l10 = core__int__usize__max(l2.f1, l3.f1);
@@ -12845,7 +12166,8 @@ static inline struct judge__Done judging__statement__branched(struct judge__Scop
     l0.f1 = l10;
     l0.f2 = l3.f2;
     l0.f3 = l11;
-    l0.f4 = l6;
+    l0.f4.f0 = l6.f0;
+    l0.f4.f1 = l6.f1;
     return l0;
 }
 
@@ -12879,21 +12201,19 @@ static RT_HERE struct judge__Done judging__statement__declared(struct judge__Sco
     l0.f1 = l13;
     l0.f2 = UINT64_C(0);
     l0.f3 = l9;
-    l0.f4 = l7;
+    l0.f4.f0 = l7.f0;
+    l0.f4.f1 = l7.f1;
     return l0;
 }
 
 static inline struct judge__Done judging__statement__followed(struct judge__Done l1, struct judge__Done l2)
 {
     struct judge__Done l0;
-    struct judge__Scope l3;
     uint64_t l4;
     uint64_t l5;
     uint64_t l6;
     uint64_t l7;
     uint8_t l8;
-    l3.f0 = l2.f4.f0;
-    l3.f1 = l2.f4.f1;
     l4 = (uint64_t)((uint64_t)l1.f0 + (uint64_t)l2.f0);
     l6 = (uint64_t)((uint64_t)l1.f2 + (uint64_t)l2.f1);
     l5 = core__int__usize__max(l1.f1, l6);
@@ -12903,7 +12223,8 @@ static inline struct judge__Done judging__statement__followed(struct judge__Done
     l0.f1 = l5;
     l0.f2 = l7;
     l0.f3 = l8;
-    l0.f4 = l3;
+    l0.f4.f0 = l2.f4.f0;
+    l0.f4.f1 = l2.f4.f1;
     return l0;
 }
 
@@ -12914,7 +12235,8 @@ static inline struct judge__Done judging__statement__nothing(struct judge__Scope
     l0.f1 = UINT64_C(0);
     l0.f2 = UINT64_C(0);
     l0.f3 = UINT8_C(0);
-    l0.f4 = l1;
+    l0.f4.f0 = l1.f0;
+    l0.f4.f1 = l1.f1;
     return l0;
 }
 
@@ -12939,7 +12261,8 @@ static RT_HERE struct judge__Done judging__statement__updated(struct judge__Scop
     l0.f1 = l9;
     l0.f2 = UINT64_C(0);
     l0.f3 = l10;
-    l0.f4 = l1;
+    l0.f4.f0 = l1.f0;
+    l0.f4.f1 = l1.f1;
     return l0;
 }
 
@@ -13220,7 +12543,6 @@ static RT_HERE struct core__option__Option__u64 lexer__bytes__close_place(rt_sli
 {
     struct core__option__Option__u64 l0;
     uint64_t l2;
-    uint64_t l3;
     uint8_t l4;
     uint8_t l5;
     uint8_t *l6;
@@ -13239,9 +12561,8 @@ static RT_HERE struct core__option__Option__u64 lexer__bytes__close_place(rt_sli
     uint8_t l19;
     uint64_t l20;
     l2 = UINT64_C(1);
-    l3 = l1.n;
     for (;;) {
-        l4 = (uint8_t)(l2 < l3);
+        l4 = (uint8_t)(l2 < l1.n);
         if (l4) {
         } else {
             goto end1;
@@ -13282,34 +12603,22 @@ end1:;
 static RT_HERE struct core__option__Option__u64 lexer__bytes__closing(rt_slice l1)
 {
     struct core__option__Option__u64 l0;
-    uint64_t l2;
-    struct core__option__NoValue l3;
-    uint64_t l4;
     struct core__ops__ControlFlow__NoValue_u64 l5;
     struct core__option__Option__u64 l6;
-    rt_slice l7;
-    uint64_t l8;
-    struct core__option__NoValue l9;
     uint64_t l10;
-    l7 = l1;
-    l6 = lexer__bytes__close_place(l7);
+    l6 = lexer__bytes__close_place(l1);
     l5 = core__option__OptionTry__branch__u64(l6);
     switch (l5.tag) {
         case UINT8_C(0): {
-            l2 = l5.s0;
-            l8 = l2;
             break;
         }
         case UINT8_C(1): default: {
-            l3 = l5.s1;
-            l9 = l3;
-            l0 = core__option__OptionFromResidualNoValue__from_residual__u64(l9);
+            l0 = core__option__OptionFromResidualNoValue__from_residual__u64(l5.s1);
             return l0;
             break;
         }
     }
-    l4 = l8;
-    l10 = (uint64_t)((uint64_t)l4 + (uint64_t)UINT64_C(2));
+    l10 = (uint64_t)((uint64_t)l5.s0 + (uint64_t)UINT64_C(2));
     l0.tag = UINT8_C(1);
     l0.s0 = l10;
     return l0;
@@ -13328,7 +12637,7 @@ static inline uint64_t lexer__bytes__digits(rt_slice l1)
     return l0;
 }
 
-static RT_HERE uint8_t lexer__bytes__fn__digits__take_while(uint8_t *l1, uint8_t *l2)
+static RT_WITHIN uint8_t lexer__bytes__fn__digits__take_while(uint8_t *l1, uint8_t *l2)
 {
     uint8_t l0;
     uint8_t l3;
@@ -13338,7 +12647,7 @@ static RT_HERE uint8_t lexer__bytes__fn__digits__take_while(uint8_t *l1, uint8_t
     return l0;
 }
 
-static RT_HERE uint8_t lexer__bytes__fn__digits__take_while_FnMut__call_mut(uint8_t *l1, uint8_t *l2)
+static RT_WITHIN uint8_t lexer__bytes__fn__digits__take_while_FnMut__call_mut(uint8_t *l1, uint8_t *l2)
 {
     uint8_t l0;
     uint8_t *l3;
@@ -13347,7 +12656,7 @@ static RT_HERE uint8_t lexer__bytes__fn__digits__take_while_FnMut__call_mut(uint
     return l0;
 }
 
-static RT_HERE uint8_t lexer__bytes__fn__names__take_while(uint8_t *l1, uint8_t *l2)
+static RT_WITHIN uint8_t lexer__bytes__fn__names__take_while(uint8_t *l1, uint8_t *l2)
 {
     uint8_t l0;
     uint8_t l3;
@@ -13357,7 +12666,7 @@ static RT_HERE uint8_t lexer__bytes__fn__names__take_while(uint8_t *l1, uint8_t 
     return l0;
 }
 
-static RT_HERE uint8_t lexer__bytes__fn__names__take_while_FnMut__call_mut(uint8_t *l1, uint8_t *l2)
+static RT_WITHIN uint8_t lexer__bytes__fn__names__take_while_FnMut__call_mut(uint8_t *l1, uint8_t *l2)
 {
     uint8_t l0;
     uint8_t *l3;
@@ -13483,7 +12792,7 @@ static inline uint8_t lexer__bytes__signed(uint8_t l1, uint8_t l2)
     return l0;
 }
 
-static RT_HERE struct rt_tuple2__u8_u64 lexer__fn__followed__map(struct lexer__fn__followed__map_Self l1, uint8_t l2)
+static RT_WITHIN struct rt_tuple2__u8_u64 lexer__fn__followed__map(struct lexer__fn__followed__map_Self l1, uint8_t l2)
 {
     struct rt_tuple2__u8_u64 l0;
     (void)l1;
@@ -13492,7 +12801,7 @@ static RT_HERE struct rt_tuple2__u8_u64 lexer__fn__followed__map(struct lexer__f
     return l0;
 }
 
-static RT_HERE struct rt_tuple2__u8_u64 lexer__fn__followed__map_FnOnce__call_once(struct lexer__fn__followed__map_Self l1, uint8_t l2)
+static RT_WITHIN struct rt_tuple2__u8_u64 lexer__fn__followed__map_FnOnce__call_once(struct lexer__fn__followed__map_Self l1, uint8_t l2)
 {
     struct rt_tuple2__u8_u64 l0;
     l0 = lexer__fn__followed__map(l1, l2);
@@ -13511,7 +12820,8 @@ static RT_HERE struct core__option__Option__rt_tuple2_u8_u64 lexer__followed(uin
         l7.f0 = l3;
         l7.f1 = UINT64_C(1);
         l6.tag = UINT8_C(1);
-        l6.s0 = l7;
+        l6.s0.f0 = l7.f0;
+        l6.s0.f1 = l7.f1;
     } else {
         l8.none = 0;
         l6 = core__option__Option__map__u8_rt_tuple2_u8_u64_map_Self(l4, l8);
@@ -13555,15 +12865,13 @@ static inline uint64_t lexer__gaps__beyond(rt_slice l1, uint64_t l2)
     uint64_t l4;
     uint64_t l5;
     uint8_t l6;
-    uint64_t l7;
     uint8_t *l8;
     uint8_t l9;
     l4 = l1.n;
     l5 = (uint64_t)((uint64_t)l4 - (uint64_t)l2);
     l6 = (uint8_t)(l5 <= UINT64_C(8));
     if (l6) {
-        l7 = l1.n;
-        l0 = lexer__gaps__within(l1, l2, l7);
+        l0 = lexer__gaps__within(l1, l2, l1.n);
         return l0;
     }
     l4 = (uint64_t)((uint64_t)l2 + (uint64_t)UINT64_C(8));
@@ -13711,12 +13019,10 @@ static inline uint64_t lexer__gaps__next(rt_slice l1, uint64_t l2)
     uint64_t l0;
     uint64_t l3;
     uint8_t l4;
-    uint64_t l5;
     uint8_t *l6;
     uint8_t l7;
     uint8_t l8;
-    l5 = l1.n;
-    l4 = (uint8_t)(l2 < l5);
+    l4 = (uint8_t)(l2 < l1.n);
     if (l4) {
         l6 = l1.p + (size_t)l2;
         l7 = (*(uint8_t *)l6);
@@ -13789,8 +13095,6 @@ static inline uint8_t lexer__mark(rt_slice l1, rt_slice l2)
 {
     uint8_t l0;
     uint64_t l3;
-    uint8_t l4;
-    uint64_t l5;
     struct core__option__Option__rt_tuple2_u8_u64 l6;
     uint8_t *l7;
     uint64_t l8;
@@ -13798,7 +13102,6 @@ static inline uint8_t lexer__mark(rt_slice l1, rt_slice l2)
     rt_slice l10;
     uint8_t *l11;
     uint64_t l12;
-    uint64_t l13;
     l3 = UINT64_C(0);
     for (;;) {
         l7 = l1.p + (size_t)l3;
@@ -13809,11 +13112,9 @@ static inline uint8_t lexer__mark(rt_slice l1, rt_slice l2)
         l6 = lexer__token(l10);
         switch (l6.tag) {
             case UINT8_C(1): {
-                l4 = l6.s0.f0;
-                l5 = l6.s0.f1;
                 l11 = l2.p + (size_t)l3;
-                (*(uint8_t *)l11) = l4;
-                l12 = (uint64_t)((uint64_t)l5 + (uint64_t)UINT64_C(1));
+                (*(uint8_t *)l11) = l6.s0.f0;
+                l12 = (uint64_t)((uint64_t)l6.s0.f1 + (uint64_t)UINT64_C(1));
                 l3 = (uint64_t)((uint64_t)l3 + (uint64_t)l12);
                 break;
             }
@@ -13824,8 +13125,7 @@ static inline uint8_t lexer__mark(rt_slice l1, rt_slice l2)
         }
     }
 end1:;
-    l13 = l1.n;
-    l0 = (uint8_t)(l3 == l13);
+    l0 = (uint8_t)(l3 == l1.n);
     return l0;
 }
 
@@ -13855,7 +13155,8 @@ static RT_HERE struct core__option__Option__rt_tuple2_u8_u64 lexer__name(rt_slic
     l10.f0 = l7;
     l10.f1 = l2;
     l0.tag = UINT8_C(1);
-    l0.s0 = l10;
+    l0.s0.f0 = l10.f0;
+    l0.s0.f1 = l10.f1;
     return l0;
 }
 
@@ -13876,7 +13177,8 @@ static RT_HERE struct core__option__Option__rt_tuple2_u8_u64 lexer__nat(rt_slice
         l7.f0 = UINT8_C(38);
         l7.f1 = l6;
         l5.tag = UINT8_C(1);
-        l5.s0 = l7;
+        l5.s0.f0 = l7.f0;
+        l5.s0.f1 = l7.f1;
     } else {
         l5.tag = UINT8_C(0);
     }
@@ -13888,9 +13190,6 @@ static RT_HERE struct core__option__Option__rt_tuple2_u8_u64 lexer__other(uint8_
 {
     struct core__option__Option__rt_tuple2_u8_u64 l0;
     uint8_t l3;
-    uint64_t l4;
-    uint64_t l5;
-    struct core__option__NoValue l6;
     uint8_t l7;
     struct core__ops__ControlFlow__NoValue_u64 l8;
     struct core__option__Option__u64 l9;
@@ -13898,7 +13197,6 @@ static RT_HERE struct core__option__Option__rt_tuple2_u8_u64 lexer__other(uint8_
     uint64_t l11;
     uint8_t *l12;
     rt_slice l13;
-    uint64_t l14;
     struct rt_tuple2__u8_u64 l15;
     uint8_t l16;
     uint64_t l17;
@@ -13915,23 +13213,25 @@ static RT_HERE struct core__option__Option__rt_tuple2_u8_u64 lexer__other(uint8_
         l8 = core__option__OptionTry__branch__u64(l9);
         switch (l8.tag) {
             case UINT8_C(0): {
-                l5 = l8.s0;
-                l14 = l5;
                 break;
             }
             case UINT8_C(1): default: {
-                l6 = l8.s1;
-                l0 = core__option__OptionFromResidualNoValue__from_residual_e4dc67fa(l6);
+                {
+                    struct core__option__Option__rt_tuple2_u8_u64 r = core__option__OptionFromResidualNoValue__from_residual_e4dc67fa(l8.s1);
+                    l0.tag = r.tag;
+                    l0.s0.f0 = r.s0.f0;
+                    l0.s0.f1 = r.s0.f1;
+                }
                 return l0;
                 break;
             }
         }
-        l4 = l14;
-        l11 = (uint64_t)((uint64_t)l4 + (uint64_t)UINT64_C(1));
+        l11 = (uint64_t)((uint64_t)l8.s0 + (uint64_t)UINT64_C(1));
         l15.f0 = UINT8_C(0);
         l15.f1 = l11;
         l0.tag = UINT8_C(1);
-        l0.s0 = l15;
+        l0.s0.f0 = l15.f0;
+        l0.s0.f1 = l15.f1;
         return l0;
     }
     l16 = lexer__bytes__signed(l1, l3);
@@ -13940,10 +13240,16 @@ static RT_HERE struct core__option__Option__rt_tuple2_u8_u64 lexer__other(uint8_
         l18.f0 = UINT8_C(37);
         l18.f1 = l17;
         l0.tag = UINT8_C(1);
-        l0.s0 = l18;
+        l0.s0.f0 = l18.f0;
+        l0.s0.f1 = l18.f1;
         return l0;
     }
-    l0 = lexer__sign(l1, l3);
+    {
+        struct core__option__Option__rt_tuple2_u8_u64 r = lexer__sign(l1, l3);
+        l0.tag = r.tag;
+        l0.s0.f0 = r.s0.f0;
+        l0.s0.f1 = r.s0.f1;
+    }
     return l0;
 }
 
@@ -13981,7 +13287,8 @@ static RT_HERE struct core__option__Option__rt_tuple2_u8_u64 lexer__sign(uint8_t
             l5.f0 = UINT8_C(31);
             l5.f1 = UINT64_C(0);
             l3.tag = UINT8_C(1);
-            l3.s0 = l5;
+            l3.s0.f0 = l5.f0;
+            l3.s0.f1 = l5.f1;
             break;
         }
         case UINT8_C(38): {
@@ -13993,56 +13300,64 @@ static RT_HERE struct core__option__Option__rt_tuple2_u8_u64 lexer__sign(uint8_t
             l7.f0 = UINT8_C(13);
             l7.f1 = UINT64_C(0);
             l3.tag = UINT8_C(1);
-            l3.s0 = l7;
+            l3.s0.f0 = l7.f0;
+            l3.s0.f1 = l7.f1;
             break;
         }
         case UINT8_C(41): {
             l8.f0 = UINT8_C(14);
             l8.f1 = UINT64_C(0);
             l3.tag = UINT8_C(1);
-            l3.s0 = l8;
+            l3.s0.f0 = l8.f0;
+            l3.s0.f1 = l8.f1;
             break;
         }
         case UINT8_C(42): {
             l9.f0 = UINT8_C(29);
             l9.f1 = UINT64_C(0);
             l3.tag = UINT8_C(1);
-            l3.s0 = l9;
+            l3.s0.f0 = l9.f0;
+            l3.s0.f1 = l9.f1;
             break;
         }
         case UINT8_C(43): {
             l10.f0 = UINT8_C(32);
             l10.f1 = UINT64_C(0);
             l3.tag = UINT8_C(1);
-            l3.s0 = l10;
+            l3.s0.f0 = l10.f0;
+            l3.s0.f1 = l10.f1;
             break;
         }
         case UINT8_C(44): {
             l11.f0 = UINT8_C(17);
             l11.f1 = UINT64_C(0);
             l3.tag = UINT8_C(1);
-            l3.s0 = l11;
+            l3.s0.f0 = l11.f0;
+            l3.s0.f1 = l11.f1;
             break;
         }
         case UINT8_C(45): {
             l12.f0 = UINT8_C(33);
             l12.f1 = UINT64_C(0);
             l3.tag = UINT8_C(1);
-            l3.s0 = l12;
+            l3.s0.f0 = l12.f0;
+            l3.s0.f1 = l12.f1;
             break;
         }
         case UINT8_C(46): {
             l13.f0 = UINT8_C(21);
             l13.f1 = UINT64_C(0);
             l3.tag = UINT8_C(1);
-            l3.s0 = l13;
+            l3.s0.f0 = l13.f0;
+            l3.s0.f1 = l13.f1;
             break;
         }
         case UINT8_C(47): {
             l14.f0 = UINT8_C(30);
             l14.f1 = UINT64_C(0);
             l3.tag = UINT8_C(1);
-            l3.s0 = l14;
+            l3.s0.f0 = l14.f0;
+            l3.s0.f1 = l14.f1;
             break;
         }
         case UINT8_C(58): {
@@ -14055,7 +13370,8 @@ static RT_HERE struct core__option__Option__rt_tuple2_u8_u64 lexer__sign(uint8_t
             l16.f0 = UINT8_C(19);
             l16.f1 = UINT64_C(0);
             l3.tag = UINT8_C(1);
-            l3.s0 = l16;
+            l3.s0.f0 = l16.f0;
+            l3.s0.f1 = l16.f1;
             break;
         }
         case UINT8_C(60): {
@@ -14068,7 +13384,8 @@ static RT_HERE struct core__option__Option__rt_tuple2_u8_u64 lexer__sign(uint8_t
             l18.f0 = UINT8_C(23);
             l18.f1 = UINT64_C(0);
             l3.tag = UINT8_C(1);
-            l3.s0 = l18;
+            l3.s0.f0 = l18.f0;
+            l3.s0.f1 = l18.f1;
             break;
         }
         case UINT8_C(62): {
@@ -14081,7 +13398,8 @@ static RT_HERE struct core__option__Option__rt_tuple2_u8_u64 lexer__sign(uint8_t
             l20.f0 = UINT8_C(15);
             l20.f1 = UINT64_C(0);
             l3.tag = UINT8_C(1);
-            l3.s0 = l20;
+            l3.s0.f0 = l20.f0;
+            l3.s0.f1 = l20.f1;
             break;
         }
         case UINT8_C(124): {
@@ -14093,7 +13411,8 @@ static RT_HERE struct core__option__Option__rt_tuple2_u8_u64 lexer__sign(uint8_t
             l22.f0 = UINT8_C(16);
             l22.f1 = UINT64_C(0);
             l3.tag = UINT8_C(1);
-            l3.s0 = l22;
+            l3.s0.f0 = l22.f0;
+            l3.s0.f1 = l22.f1;
             break;
         }
         default: {
@@ -14110,7 +13429,6 @@ static RT_HERE struct core__option__Option__rt_tuple2_u8_u64 lexer__token(rt_sli
     struct core__option__Option__rt_tuple2_u8_u64 l0;
     uint8_t *l2;
     rt_slice l3;
-    uint8_t l4;
     uint8_t l5;
     uint8_t *l6;
     uint8_t *l7;
@@ -14139,11 +13457,11 @@ static RT_HERE struct core__option__Option__rt_tuple2_u8_u64 lexer__token(rt_sli
     l10 = lexer__alone(l11);
     switch (l10.tag) {
         case UINT8_C(1): {
-            l4 = l10.s0;
-            l12.f0 = l4;
+            l12.f0 = l10.s0;
             l12.f1 = UINT64_C(0);
             l0.tag = UINT8_C(1);
-            l0.s0 = l12;
+            l0.s0.f0 = l12.f0;
+            l0.s0.f1 = l12.f1;
             return l0;
             break;
         }
@@ -14154,13 +13472,23 @@ static RT_HERE struct core__option__Option__rt_tuple2_u8_u64 lexer__token(rt_sli
     l11 = (*(uint8_t *)l2);
     l13 = lexer__bytes__is_letter(l11);
     if (l13) {
-        l0 = lexer__name(l1);
+        {
+            struct core__option__Option__rt_tuple2_u8_u64 r = lexer__name(l1);
+            l0.tag = r.tag;
+            l0.s0.f0 = r.s0.f0;
+            l0.s0.f1 = r.s0.f1;
+        }
         return l0;
     }
     l11 = (*(uint8_t *)l2);
     l14 = lexer__bytes__is_digit(l11);
     if (l14) {
-        l0 = lexer__nat(l3);
+        {
+            struct core__option__Option__rt_tuple2_u8_u64 r = lexer__nat(l3);
+            l0.tag = r.tag;
+            l0.s0.f0 = r.s0.f0;
+            l0.s0.f1 = r.s0.f1;
+        }
         return l0;
     }
     l11 = (*(uint8_t *)l2);
@@ -14169,11 +13497,17 @@ static RT_HERE struct core__option__Option__rt_tuple2_u8_u64 lexer__token(rt_sli
         l16.f0 = UINT8_C(0);
         l16.f1 = UINT64_C(0);
         l0.tag = UINT8_C(1);
-        l0.s0 = l16;
+        l0.s0.f0 = l16.f0;
+        l0.s0.f1 = l16.f1;
         return l0;
     }
     l11 = (*(uint8_t *)l2);
-    l0 = lexer__other(l11, l3);
+    {
+        struct core__option__Option__rt_tuple2_u8_u64 r = lexer__other(l11, l3);
+        l0.tag = r.tag;
+        l0.s0.f0 = r.s0.f0;
+        l0.s0.f1 = r.s0.f1;
+    }
     return l0;
 }
 
@@ -14392,10 +13726,6 @@ static RT_APART uint64_t listing__image__listing(rt_slice l1, rt_slice l2)
     struct rt_array_uint8_128 l5;
     struct rt_array_uint16_512 l6;
     struct core__result__Result__Loaded_Refusal l7;
-    struct load__Loaded l8;
-    struct load__Loaded l9;
-    struct types__refusal__Refusal l10;
-    uint64_t l11;
     uint64_t l12;
     struct rt_array_uint64_1024 l13;
     struct rt_array_uint64_4 l14;
@@ -14408,7 +13738,6 @@ static RT_APART uint64_t listing__image__listing(rt_slice l1, rt_slice l2)
     rt_slice l21;
     uint8_t *l22;
     rt_slice l23;
-    struct load__Loaded l24;
     uint8_t *l25;
     rt_slice l26;
     uint8_t *l27;
@@ -14462,24 +13791,9 @@ static RT_APART uint64_t listing__image__listing(rt_slice l1, rt_slice l2)
     l7 = load__program(l1, l17, l19, l21, l23);
     switch (l7.tag) {
         case UINT8_C(0): {
-            l9.f0 = l7.s0.f0;
-            l9.f1 = l7.s0.f1;
-            l9.f2 = l7.s0.f2;
-            l9.f3 = l7.s0.f3;
-            l9.f4 = l7.s0.f4;
-            l9.f5 = l7.s0.f5;
-            l9.f6 = l7.s0.f6;
-            l24.f0 = l9.f0;
-            l24.f1 = l9.f1;
-            l24.f2 = l9.f2;
-            l24.f3 = l9.f3;
-            l24.f4 = l9.f4;
-            l24.f5 = l9.f5;
-            l24.f6 = l9.f6;
             break;
         }
         case UINT8_C(1): default: {
-            l10 = l7.s1;
             l25 = (uint8_t *)&(*(uint8_t *)l2.p);
             l26.p = l25;
             l26.n = l2.n;
@@ -14487,7 +13801,7 @@ static RT_APART uint64_t listing__image__listing(rt_slice l1, rt_slice l2)
             l28 = (uint8_t *)&(*(uint8_t *)l27);
             l29.p = l28;
             l29.n = UINT64_C(7);
-            l32 = types__refusal__U8FromRefusal__from(l10);
+            l32 = types__refusal__U8FromRefusal__from(l7.s1);
             l31 = core__convert__U64FromU8__from(l32);
             l30 = (struct rt_array_uint64_1){ { l31 } };
             l33 = (uint8_t *)&l30;
@@ -14498,30 +13812,22 @@ static RT_APART uint64_t listing__image__listing(rt_slice l1, rt_slice l2)
             break;
         }
     }
-    l8.f0 = l24.f0;
-    l8.f1 = l24.f1;
-    l8.f2 = l24.f2;
-    l8.f3 = l24.f3;
-    l8.f4 = l24.f4;
-    l8.f5 = l24.f5;
-    l8.f6 = l24.f6;
-    l11 = l8.f0;
-    l12 = (uint64_t)l8.f3;
+    l12 = (uint64_t)l7.s0.f3;
     memset(&l13, 0, sizeof l13);
     l36 = (uint8_t *)&l3;
     l37.p = l36;
-    l37.n = l11;
+    l37.n = l7.s0.f0;
     l38 = (uint8_t *)&l4;
     l39.p = l38;
     l39.n = l12;
     l40 = (uint8_t *)&l13;
     l41.p = l40;
     l41.n = UINT64_C(1024);
-    emit_steps__program(l37, l39, l8.f1, l41);
-    l42 = (uint64_t)l8.f3;
-    l43 = (uint64_t)l8.f4;
-    l44 = (uint64_t)l8.f5;
-    l45 = (uint64_t)l8.f6;
+    emit_steps__program(l37, l39, l7.s0.f1, l41);
+    l42 = (uint64_t)l7.s0.f3;
+    l43 = (uint64_t)l7.s0.f4;
+    l44 = (uint64_t)l7.s0.f5;
+    l45 = (uint64_t)l7.s0.f6;
     l14 = (struct rt_array_uint64_4){ { l42, l43, l44, l45 } };
     l46 = (uint8_t *)&(*(uint8_t *)l2.p);
     l47.p = l46;
@@ -14537,7 +13843,7 @@ static RT_APART uint64_t listing__image__listing(rt_slice l1, rt_slice l2)
     l53 = (uint8_t *)&l6;
     l54.p = l53;
     l54.n = UINT64_C(512);
-    l55 = (uint64_t)l8.f4;
+    l55 = (uint64_t)l7.s0.f4;
     l56 = (uint8_t *)&l13;
     l57.p = l56;
     l57.n = UINT64_C(1024);
@@ -14695,11 +14001,6 @@ static inline struct types__refusal__Refusal load__breach(uint8_t l1)
 static RT_HERE struct core__result__Result__Loaded_Refusal load__of_stream(rt_slice l1, rt_slice l2, rt_slice l3, rt_slice l4)
 {
     struct core__result__Result__Loaded_Refusal l0;
-    uint64_t l5;
-    struct read_program__Summary l6;
-    struct rt_tuple2__u64_Summary l7;
-    struct core__result__ErrResidual__Refusal l8;
-    struct rt_tuple2__u64_Summary l9;
     struct core__ops__ControlFlow__ErrResidual_Refusal_rt_tuple2__a4800219 l10;
     struct core__result__Result__rt_tuple2_u64_Summary_Refusal l11;
     uint8_t *l12;
@@ -14708,11 +14009,9 @@ static RT_HERE struct core__result__Result__Loaded_Refusal load__of_stream(rt_sl
     rt_slice l15;
     uint8_t *l16;
     rt_slice l17;
-    struct rt_tuple2__u64_Summary l18;
     uint8_t l19;
     struct types__refusal__Refusal l20;
     struct load__Loaded l21;
-    uint64_t l22;
     l12 = (uint8_t *)&(*(uint8_t *)l2.p);
     l13.p = l12;
     l13.n = l2.n;
@@ -14726,62 +14025,47 @@ static RT_HERE struct core__result__Result__Loaded_Refusal load__of_stream(rt_sl
     l10 = core__result__ResultTry__branch__rt_tuple2_u64_Summary_Refusal(l11);
     switch (l10.tag) {
         case UINT8_C(0): {
-            l7.f0 = l10.s0.f0;
-            l7.f1.f0 = l10.s0.f1.f0;
-            l7.f1.f1 = l10.s0.f1.f1;
-            l7.f1.f2 = l10.s0.f1.f2;
-            l7.f1.f3 = l10.s0.f1.f3;
-            l7.f1.f4 = l10.s0.f1.f4;
-            l7.f1.f5 = l10.s0.f1.f5;
-            l18.f0 = l7.f0;
-            l18.f1.f0 = l7.f1.f0;
-            l18.f1.f1 = l7.f1.f1;
-            l18.f1.f2 = l7.f1.f2;
-            l18.f1.f3 = l7.f1.f3;
-            l18.f1.f4 = l7.f1.f4;
-            l18.f1.f5 = l7.f1.f5;
             break;
         }
         case UINT8_C(1): default: {
-            l8.f0 = l10.s1.f0;
-            l0 = core__result__ResultFromResidualErrResidual__from_resi_3d5841e5(l8);
+            {
+                struct core__result__Result__Loaded_Refusal r = core__result__ResultFromResidualErrResidual__from_resi_3d5841e5(l10.s1);
+                l0.tag = r.tag;
+                l0.s0.f0 = r.s0.f0;
+                l0.s0.f1 = r.s0.f1;
+                l0.s0.f2 = r.s0.f2;
+                l0.s0.f3 = r.s0.f3;
+                l0.s0.f4 = r.s0.f4;
+                l0.s0.f5 = r.s0.f5;
+                l0.s0.f6 = r.s0.f6;
+                l0.s1.tag = r.s1.tag;
+            }
             return l0;
             break;
         }
     }
-    l9.f0 = l18.f0;
-    l9.f1.f0 = l18.f1.f0;
-    l9.f1.f1 = l18.f1.f1;
-    l9.f1.f2 = l18.f1.f2;
-    l9.f1.f3 = l18.f1.f3;
-    l9.f1.f4 = l18.f1.f4;
-    l9.f1.f5 = l18.f1.f5;
-    l5 = l9.f0;
-    l6.f0 = l9.f1.f0;
-    l6.f1 = l9.f1.f1;
-    l6.f2 = l9.f1.f2;
-    l6.f3 = l9.f1.f3;
-    l6.f4 = l9.f1.f4;
-    l6.f5 = l9.f1.f5;
-    l19 = (uint8_t)(l6.f0 != UINT8_C(0));
+    l19 = (uint8_t)(l10.s0.f1.f0 != UINT8_C(0));
     if (l19) {
-        l20 = load__breach(l6.f0);
+        l20 = load__breach(l10.s0.f1.f0);
         l0.tag = UINT8_C(1);
         l0.s1 = l20;
         return l0;
     }
-    l22 = l1.n;
-    l21 = load__summed(l22, l5, l6);
+    l21 = load__summed(l1.n, l10.s0.f0, l10.s0.f1);
     l0.tag = UINT8_C(0);
-    l0.s0 = l21;
+    l0.s0.f0 = l21.f0;
+    l0.s0.f1 = l21.f1;
+    l0.s0.f2 = l21.f2;
+    l0.s0.f3 = l21.f3;
+    l0.s0.f4 = l21.f4;
+    l0.s0.f5 = l21.f5;
+    l0.s0.f6 = l21.f6;
     return l0;
 }
 
 static RT_HERE struct core__result__Result__Loaded_Refusal load__program(rt_slice l1, rt_slice l2, rt_slice l3, rt_slice l4, rt_slice l5)
 {
     struct core__result__Result__Loaded_Refusal l0;
-    uint64_t l6;
-    struct block__Fault l7;
     struct core__result__Result__u64_Fault l8;
     uint8_t *l9;
     rt_slice l10;
@@ -14801,10 +14085,9 @@ static RT_HERE struct core__result__Result__Loaded_Refusal load__program(rt_slic
     l8 = blocks__open_image(l1, UINT64_C(64), l10);
     switch (l8.tag) {
         case UINT8_C(0): {
-            l6 = l8.s0;
             l12 = (uint8_t *)&(*(uint8_t *)l2.p);
             l13.p = l12;
-            l13.n = l6;
+            l13.n = l8.s0;
             l14 = (uint8_t *)&(*(uint8_t *)l3.p);
             l15.p = l14;
             l15.n = l3.n;
@@ -14818,8 +14101,7 @@ static RT_HERE struct core__result__Result__Loaded_Refusal load__program(rt_slic
             break;
         }
         case UINT8_C(1): default: {
-            l7 = l8.s1;
-            l20 = blocks__program_number(l7);
+            l20 = blocks__program_number(l8.s1);
             l11.tag = UINT8_C(1);
             l11.s1 = l20;
             break;
@@ -14848,7 +14130,7 @@ static RT_HERE struct load__Loaded load__summed(uint64_t l1, uint64_t l2, struct
     return l0;
 }
 
-static RT_HERE struct operators__Operator operators__OperatorFromU8__from(uint8_t l1)
+static RT_WITHIN struct operators__Operator operators__OperatorFromU8__from(uint8_t l1)
 {
     struct operators__Operator l0;
     struct operators__Operator l2;
@@ -14916,30 +14198,18 @@ static RT_HERE struct operators__Operator operators__OperatorFromU8__from(uint8_
 static inline struct core__result__Result__rt_tuple2_u64_Facts_Refusal read_exprs__expr__construct(rt_slice l1, uint8_t *l2, uint64_t l3, uint64_t l4, uint64_t l5)
 {
     struct core__result__Result__rt_tuple2_u64_Facts_Refusal l0;
-    uint8_t l6;
-    uint64_t l7;
-    struct rt_tuple2__u8_u64 l8;
-    struct core__result__ErrResidual__Refusal l9;
     uint8_t l10;
     struct judge__Facts l11;
     uint64_t l12;
     uint8_t l13;
-    uint64_t l14;
-    struct judge__Facts l15;
-    struct rt_tuple2__u64_Facts l16;
-    struct core__result__ErrResidual__Refusal l17;
     uint8_t l18;
-    struct rt_tuple2__u8_u64 l19;
     struct core__ops__ControlFlow__ErrResidual_Refusal_rt_tuple2_u8_u64 l20;
     struct core__result__Result__rt_tuple2_u8_u64_Refusal l21;
     uint64_t l22;
-    struct rt_tuple2__u8_u64 l23;
     rt_slice l24;
     uint8_t l25;
-    struct rt_tuple2__u64_Facts l26;
     struct core__ops__ControlFlow__ErrResidual_Refusal_rt_tuple2_u64_Facts l27;
     struct core__result__Result__rt_tuple2_u64_Facts_Refusal l28;
-    struct rt_tuple2__u64_Facts l29;
     rt_slice l30;
     struct judge__Facts l31;
     struct rt_tuple2__u64_Facts l32;
@@ -14948,28 +14218,28 @@ static inline struct core__result__Result__rt_tuple2_u64_Facts_Refusal read_expr
     l20 = core__result__ResultTry__branch__rt_tuple2_u8_u64_Refusal(l21);
     switch (l20.tag) {
         case UINT8_C(0): {
-            l8.f0 = l20.s0.f0;
-            l8.f1 = l20.s0.f1;
-            l23.f0 = l8.f0;
-            l23.f1 = l8.f1;
             break;
         }
         case UINT8_C(1): default: {
-            l9.f0 = l20.s1.f0;
-            l0 = core__result__ResultFromResidualErrResidual__from_resi_fbfd7bc2(l9);
+            {
+                struct core__result__Result__rt_tuple2_u64_Facts_Refusal r = core__result__ResultFromResidualErrResidual__from_resi_fbfd7bc2(l20.s1);
+                l0.tag = r.tag;
+                l0.s0.f0 = r.s0.f0;
+                l0.s0.f1.f0 = r.s0.f1.f0;
+                l0.s0.f1.f1 = r.s0.f1.f1;
+                l0.s0.f1.f2 = r.s0.f1.f2;
+                l0.s0.f1.f3 = r.s0.f1.f3;
+                l0.s1.tag = r.s1.tag;
+            }
             return l0;
             break;
         }
     }
-    l19.f0 = l23.f0;
-    l19.f1 = l23.f1;
-    l6 = l19.f0;
-    l7 = l19.f1;
     l24 = (*(struct read_exprs__read__Names *)l2).f0;
-    l22 = core__convert__UsizeFromU8__from(l6);
+    l22 = core__convert__UsizeFromU8__from(l20.s0.f0);
     l10 = judging__path__look(l24, l22);
     l11 = judging__expression__no_args();
-    l12 = l7;
+    l12 = l20.s0.f1;
     l13 = UINT8_C(0);
     for (;;) {
         l25 = (uint8_t)(l13 < l10);
@@ -14981,93 +14251,66 @@ static inline struct core__result__Result__rt_tuple2_u64_Facts_Refusal read_expr
         l27 = core__result__ResultTry__branch__rt_tuple2_u64_Facts_Refusal(l28);
         switch (l27.tag) {
             case UINT8_C(0): {
-                l16.f0 = l27.s0.f0;
-                l16.f1.f0 = l27.s0.f1.f0;
-                l16.f1.f1 = l27.s0.f1.f1;
-                l16.f1.f2 = l27.s0.f1.f2;
-                l16.f1.f3 = l27.s0.f1.f3;
-                l29.f0 = l16.f0;
-                l29.f1.f0 = l16.f1.f0;
-                l29.f1.f1 = l16.f1.f1;
-                l29.f1.f2 = l16.f1.f2;
-                l29.f1.f3 = l16.f1.f3;
                 break;
             }
             case UINT8_C(1): default: {
-                l17.f0 = l27.s1.f0;
-                l0 = core__result__ResultFromResidualErrResidual__from_resi_fbfd7bc2(l17);
+                {
+                    struct core__result__Result__rt_tuple2_u64_Facts_Refusal r = core__result__ResultFromResidualErrResidual__from_resi_fbfd7bc2(l27.s1);
+                    l0.tag = r.tag;
+                    l0.s0.f0 = r.s0.f0;
+                    l0.s0.f1.f0 = r.s0.f1.f0;
+                    l0.s0.f1.f1 = r.s0.f1.f1;
+                    l0.s0.f1.f2 = r.s0.f1.f2;
+                    l0.s0.f1.f3 = r.s0.f1.f3;
+                    l0.s1.tag = r.s1.tag;
+                }
                 return l0;
                 break;
             }
         }
-        l26.f0 = l29.f0;
-        l26.f1.f0 = l29.f1.f0;
-        l26.f1.f1 = l29.f1.f1;
-        l26.f1.f2 = l29.f1.f2;
-        l26.f1.f3 = l29.f1.f3;
-        l14 = l26.f0;
-        l15.f0 = l26.f1.f0;
-        l15.f1 = l26.f1.f1;
-        l15.f2 = l26.f1.f2;
-        l15.f3 = l26.f1.f3;
         l30 = (*(struct read_exprs__read__Names *)l2).f1;
-        l18 = judging__path__type_at(l30, l6, l13);
-        l11 = judging__expression__appended(l13, l18, l11, l15);
-        l12 = l14;
+        l18 = judging__path__type_at(l30, l20.s0.f0, l13);
+        l11 = judging__expression__appended(l13, l18, l11, l27.s0.f1);
+        l12 = l27.s0.f0;
         l13 = (uint8_t)((uint32_t)l13 + (uint32_t)UINT8_C(1));
     }
 end1:;
-    l31 = judging__expression__constructed(l6, l11);
+    l31 = judging__expression__constructed(l20.s0.f0, l11);
     l32.f0 = l12;
-    l32.f1 = l31;
+    l32.f1.f0 = l31.f0;
+    l32.f1.f1 = l31.f1;
+    l32.f1.f2 = l31.f2;
+    l32.f1.f3 = l31.f3;
     l0.tag = UINT8_C(0);
-    l0.s0 = l32;
+    l0.s0.f0 = l32.f0;
+    l0.s0.f1.f0 = l32.f1.f0;
+    l0.s0.f1.f1 = l32.f1.f1;
+    l0.s0.f1.f2 = l32.f1.f2;
+    l0.s0.f1.f3 = l32.f1.f3;
     return l0;
 }
 
 static inline struct core__result__Result__rt_tuple2_u64_Facts_Refusal read_exprs__expr__expr(rt_slice l1, uint8_t *l2, uint64_t l3, uint64_t l4, uint64_t l5)
 {
     struct core__result__Result__rt_tuple2_u64_Facts_Refusal l0;
-    uint8_t l6;
-    rt_slice l7;
     uint64_t l8;
     uint64_t l9;
-    uint64_t l10;
-    struct judge__Facts l11;
-    struct rt_tuple2__u64_Facts l12;
-    struct core__result__ErrResidual__Refusal l13;
-    uint64_t l14;
-    struct judge__Facts l15;
-    struct rt_tuple2__u64_Facts l16;
-    struct core__result__ErrResidual__Refusal l17;
-    uint64_t l18;
-    struct judge__Facts l19;
-    struct rt_tuple2__u64_Facts l20;
-    struct core__result__ErrResidual__Refusal l21;
-    uint64_t l22;
     uint8_t l23;
     struct types__refusal__Refusal l24;
     struct types__refusal__Refusal l25;
     uint8_t *l26;
     uint8_t l27;
-    struct rt_tuple2__u64_Facts l28;
     struct core__ops__ControlFlow__ErrResidual_Refusal_rt_tuple2_u64_Facts l29;
     struct core__result__Result__rt_tuple2_u64_Facts_Refusal l30;
-    struct rt_tuple2__u64_Facts l31;
     struct judge__Facts l32;
     struct rt_tuple2__u64_Facts l33;
     struct types__refusal__Refusal l34;
-    struct rt_tuple2__u64_Facts l35;
     struct core__ops__ControlFlow__ErrResidual_Refusal_rt_tuple2_u64_Facts l36;
     struct core__result__Result__rt_tuple2_u64_Facts_Refusal l37;
-    struct rt_tuple2__u64_Facts l38;
-    struct rt_tuple2__u64_Facts l39;
     struct core__ops__ControlFlow__ErrResidual_Refusal_rt_tuple2_u64_Facts l40;
-    struct rt_tuple2__u64_Facts l41;
     struct judge__Facts l42;
     struct rt_tuple2__u64_Facts l43;
-    l22 = l1.n;
-    l23 = (uint8_t)(l22 <= l4);
+    l23 = (uint8_t)(l1.n <= l4);
     if (l23) {
         l24.tag = UINT8_C(3);
         l0.tag = UINT8_C(1);
@@ -15083,180 +14326,177 @@ static inline struct core__result__Result__rt_tuple2_u64_Facts_Refusal read_expr
     }
     l26 = l1.p + (size_t)l4;
     l27 = (*(uint8_t *)l26);
-    l6 = l27;
-    l7 = l1;
     l8 = (uint64_t)((uint64_t)l4 + (uint64_t)UINT64_C(1));
     l9 = (uint64_t)((uint64_t)l5 - (uint64_t)UINT64_C(1));
-    l23 = (uint8_t)(l6 == UINT8_C(16));
+    l23 = (uint8_t)(l27 == UINT8_C(16));
     if (l23) {
-        l30 = read_exprs__expr__expr(l7, l2, l3, l8, l9);
+        l30 = read_exprs__expr__expr(l1, l2, l3, l8, l9);
         l29 = core__result__ResultTry__branch__rt_tuple2_u64_Facts_Refusal(l30);
         switch (l29.tag) {
             case UINT8_C(0): {
-                l12.f0 = l29.s0.f0;
-                l12.f1.f0 = l29.s0.f1.f0;
-                l12.f1.f1 = l29.s0.f1.f1;
-                l12.f1.f2 = l29.s0.f1.f2;
-                l12.f1.f3 = l29.s0.f1.f3;
-                l31.f0 = l12.f0;
-                l31.f1.f0 = l12.f1.f0;
-                l31.f1.f1 = l12.f1.f1;
-                l31.f1.f2 = l12.f1.f2;
-                l31.f1.f3 = l12.f1.f3;
                 break;
             }
             case UINT8_C(1): default: {
-                l13.f0 = l29.s1.f0;
-                l0 = core__result__ResultFromResidualErrResidual__from_resi_fbfd7bc2(l13);
+                {
+                    struct core__result__Result__rt_tuple2_u64_Facts_Refusal r = core__result__ResultFromResidualErrResidual__from_resi_fbfd7bc2(l29.s1);
+                    l0.tag = r.tag;
+                    l0.s0.f0 = r.s0.f0;
+                    l0.s0.f1.f0 = r.s0.f1.f0;
+                    l0.s0.f1.f1 = r.s0.f1.f1;
+                    l0.s0.f1.f2 = r.s0.f1.f2;
+                    l0.s0.f1.f3 = r.s0.f1.f3;
+                    l0.s1.tag = r.s1.tag;
+                }
                 return l0;
                 break;
             }
         }
-        l28.f0 = l31.f0;
-        l28.f1.f0 = l31.f1.f0;
-        l28.f1.f1 = l31.f1.f1;
-        l28.f1.f2 = l31.f1.f2;
-        l28.f1.f3 = l31.f1.f3;
-        l10 = l28.f0;
-        l11.f0 = l28.f1.f0;
-        l11.f1 = l28.f1.f1;
-        l11.f2 = l28.f1.f2;
-        l11.f3 = l28.f1.f3;
-        l32 = judging__expression__negated(l11);
-        l33.f0 = l10;
-        l33.f1 = l32;
+        l32 = judging__expression__negated(l29.s0.f1);
+        l33.f0 = l29.s0.f0;
+        l33.f1.f0 = l32.f0;
+        l33.f1.f1 = l32.f1;
+        l33.f1.f2 = l32.f2;
+        l33.f1.f3 = l32.f3;
         l0.tag = UINT8_C(0);
-        l0.s0 = l33;
+        l0.s0.f0 = l33.f0;
+        l0.s0.f1.f0 = l33.f1.f0;
+        l0.s0.f1.f1 = l33.f1.f1;
+        l0.s0.f1.f2 = l33.f1.f2;
+        l0.s0.f1.f3 = l33.f1.f3;
         return l0;
     }
-    l23 = (uint8_t)(l6 == UINT8_C(17));
+    l23 = (uint8_t)(l27 == UINT8_C(17));
     if (l23) {
-        l0 = read_exprs__expr__construct(l7, l2, l3, l8, l9);
+        {
+            struct core__result__Result__rt_tuple2_u64_Facts_Refusal r = read_exprs__expr__construct(l1, l2, l3, l8, l9);
+            l0.tag = r.tag;
+            l0.s0.f0 = r.s0.f0;
+            l0.s0.f1.f0 = r.s0.f1.f0;
+            l0.s0.f1.f1 = r.s0.f1.f1;
+            l0.s0.f1.f2 = r.s0.f1.f2;
+            l0.s0.f1.f3 = r.s0.f1.f3;
+            l0.s1.tag = r.s1.tag;
+        }
         return l0;
     }
-    l23 = (uint8_t)(l6 < UINT8_C(32));
+    l23 = (uint8_t)(l27 < UINT8_C(32));
     if (l23) {
-        l0 = read_exprs__leaf__leaf(l7, l2, l3, l6, l8);
+        {
+            struct core__result__Result__rt_tuple2_u64_Facts_Refusal r = read_exprs__leaf__leaf(l1, l2, l3, l27, l8);
+            l0.tag = r.tag;
+            l0.s0.f0 = r.s0.f0;
+            l0.s0.f1.f0 = r.s0.f1.f0;
+            l0.s0.f1.f1 = r.s0.f1.f1;
+            l0.s0.f1.f2 = r.s0.f1.f2;
+            l0.s0.f1.f3 = r.s0.f1.f3;
+            l0.s1.tag = r.s1.tag;
+        }
         return l0;
     }
-    l23 = (uint8_t)(UINT8_C(44) < l6);
+    l23 = (uint8_t)(UINT8_C(44) < l27);
     if (l23) {
         l34.tag = UINT8_C(4);
         l0.tag = UINT8_C(1);
         l0.s1 = l34;
         return l0;
     }
-    l37 = read_exprs__expr__expr(l7, l2, l3, l8, l9);
+    l37 = read_exprs__expr__expr(l1, l2, l3, l8, l9);
     l36 = core__result__ResultTry__branch__rt_tuple2_u64_Facts_Refusal(l37);
     switch (l36.tag) {
         case UINT8_C(0): {
-            l16.f0 = l36.s0.f0;
-            l16.f1.f0 = l36.s0.f1.f0;
-            l16.f1.f1 = l36.s0.f1.f1;
-            l16.f1.f2 = l36.s0.f1.f2;
-            l16.f1.f3 = l36.s0.f1.f3;
-            l38.f0 = l16.f0;
-            l38.f1.f0 = l16.f1.f0;
-            l38.f1.f1 = l16.f1.f1;
-            l38.f1.f2 = l16.f1.f2;
-            l38.f1.f3 = l16.f1.f3;
             break;
         }
         case UINT8_C(1): default: {
-            l17.f0 = l36.s1.f0;
-            l0 = core__result__ResultFromResidualErrResidual__from_resi_fbfd7bc2(l17);
+            {
+                struct core__result__Result__rt_tuple2_u64_Facts_Refusal r = core__result__ResultFromResidualErrResidual__from_resi_fbfd7bc2(l36.s1);
+                l0.tag = r.tag;
+                l0.s0.f0 = r.s0.f0;
+                l0.s0.f1.f0 = r.s0.f1.f0;
+                l0.s0.f1.f1 = r.s0.f1.f1;
+                l0.s0.f1.f2 = r.s0.f1.f2;
+                l0.s0.f1.f3 = r.s0.f1.f3;
+                l0.s1.tag = r.s1.tag;
+            }
             return l0;
             break;
         }
     }
-    l35.f0 = l38.f0;
-    l35.f1.f0 = l38.f1.f0;
-    l35.f1.f1 = l38.f1.f1;
-    l35.f1.f2 = l38.f1.f2;
-    l35.f1.f3 = l38.f1.f3;
-    l14 = l35.f0;
-    l15.f0 = l35.f1.f0;
-    l15.f1 = l35.f1.f1;
-    l15.f2 = l35.f1.f2;
-    l15.f3 = l35.f1.f3;
-    l37 = read_exprs__expr__expr(l7, l2, l3, l14, l9);
+    l37 = read_exprs__expr__expr(l1, l2, l3, l36.s0.f0, l9);
     l40 = core__result__ResultTry__branch__rt_tuple2_u64_Facts_Refusal(l37);
     switch (l40.tag) {
         case UINT8_C(0): {
-            l20.f0 = l40.s0.f0;
-            l20.f1.f0 = l40.s0.f1.f0;
-            l20.f1.f1 = l40.s0.f1.f1;
-            l20.f1.f2 = l40.s0.f1.f2;
-            l20.f1.f3 = l40.s0.f1.f3;
-            l41.f0 = l20.f0;
-            l41.f1.f0 = l20.f1.f0;
-            l41.f1.f1 = l20.f1.f1;
-            l41.f1.f2 = l20.f1.f2;
-            l41.f1.f3 = l20.f1.f3;
             break;
         }
         case UINT8_C(1): default: {
-            l21.f0 = l40.s1.f0;
-            l0 = core__result__ResultFromResidualErrResidual__from_resi_fbfd7bc2(l21);
+            {
+                struct core__result__Result__rt_tuple2_u64_Facts_Refusal r = core__result__ResultFromResidualErrResidual__from_resi_fbfd7bc2(l40.s1);
+                l0.tag = r.tag;
+                l0.s0.f0 = r.s0.f0;
+                l0.s0.f1.f0 = r.s0.f1.f0;
+                l0.s0.f1.f1 = r.s0.f1.f1;
+                l0.s0.f1.f2 = r.s0.f1.f2;
+                l0.s0.f1.f3 = r.s0.f1.f3;
+                l0.s1.tag = r.s1.tag;
+            }
             return l0;
             break;
         }
     }
-    l39.f0 = l41.f0;
-    l39.f1.f0 = l41.f1.f0;
-    l39.f1.f1 = l41.f1.f1;
-    l39.f1.f2 = l41.f1.f2;
-    l39.f1.f3 = l41.f1.f3;
-    l18 = l39.f0;
-    l19.f0 = l39.f1.f0;
-    l19.f1 = l39.f1.f1;
-    l19.f2 = l39.f1.f2;
-    l19.f3 = l39.f1.f3;
-    l42 = judging__expression__combined(l6, l15, l19);
-    l43.f0 = l18;
-    l43.f1 = l42;
+    l42 = judging__expression__combined(l27, l36.s0.f1, l40.s0.f1);
+    l43.f0 = l40.s0.f0;
+    l43.f1.f0 = l42.f0;
+    l43.f1.f1 = l42.f1;
+    l43.f1.f2 = l42.f2;
+    l43.f1.f3 = l42.f3;
     l0.tag = UINT8_C(0);
-    l0.s0 = l43;
+    l0.s0.f0 = l43.f0;
+    l0.s0.f1.f0 = l43.f1.f0;
+    l0.s0.f1.f1 = l43.f1.f1;
+    l0.s0.f1.f2 = l43.f1.f2;
+    l0.s0.f1.f3 = l43.f1.f3;
     return l0;
 }
 
 static RT_HERE struct core__result__Result__rt_tuple2_u64_Facts_Refusal read_exprs__leaf__bool_byte(rt_slice l1, uint64_t l2)
 {
     struct core__result__Result__rt_tuple2_u64_Facts_Refusal l0;
-    uint64_t l3;
-    struct rt_tuple2__u8_u64 l4;
-    struct core__result__ErrResidual__Refusal l5;
-    struct rt_tuple2__u8_u64 l6;
     struct core__ops__ControlFlow__ErrResidual_Refusal_rt_tuple2_u8_u64 l7;
     struct core__result__Result__rt_tuple2_u8_u64_Refusal l8;
-    struct rt_tuple2__u8_u64 l9;
     struct judge__Facts l10;
     struct rt_tuple2__u64_Facts l11;
     l8 = read_exprs__read__ranged(l1, UINT64_C(0), UINT64_C(2), l2);
     l7 = core__result__ResultTry__branch__rt_tuple2_u8_u64_Refusal(l8);
     switch (l7.tag) {
         case UINT8_C(0): {
-            l4.f0 = l7.s0.f0;
-            l4.f1 = l7.s0.f1;
-            l9.f0 = l4.f0;
-            l9.f1 = l4.f1;
             break;
         }
         case UINT8_C(1): default: {
-            l5.f0 = l7.s1.f0;
-            l0 = core__result__ResultFromResidualErrResidual__from_resi_fbfd7bc2(l5);
+            {
+                struct core__result__Result__rt_tuple2_u64_Facts_Refusal r = core__result__ResultFromResidualErrResidual__from_resi_fbfd7bc2(l7.s1);
+                l0.tag = r.tag;
+                l0.s0.f0 = r.s0.f0;
+                l0.s0.f1.f0 = r.s0.f1.f0;
+                l0.s0.f1.f1 = r.s0.f1.f1;
+                l0.s0.f1.f2 = r.s0.f1.f2;
+                l0.s0.f1.f3 = r.s0.f1.f3;
+                l0.s1.tag = r.s1.tag;
+            }
             return l0;
             break;
         }
     }
-    l6.f0 = l9.f0;
-    l6.f1 = l9.f1;
-    l3 = l6.f1;
     l10 = judging__expression__pushed(UINT8_C(2));
-    l11.f0 = l3;
-    l11.f1 = l10;
+    l11.f0 = l7.s0.f1;
+    l11.f1.f0 = l10.f0;
+    l11.f1.f1 = l10.f1;
+    l11.f1.f2 = l10.f2;
+    l11.f1.f3 = l10.f3;
     l0.tag = UINT8_C(0);
-    l0.s0 = l11;
+    l0.s0.f0 = l11.f0;
+    l0.s0.f1.f0 = l11.f1.f0;
+    l0.s0.f1.f1 = l11.f1.f1;
+    l0.s0.f1.f2 = l11.f1.f2;
+    l0.s0.f1.f3 = l11.f1.f3;
     return l0;
 }
 
@@ -15272,28 +14512,73 @@ static inline struct core__result__Result__rt_tuple2_u64_Facts_Refusal read_expr
     struct types__refusal__Refusal l12;
     l6 = (uint8_t)(l4 == UINT8_C(18));
     if (l6) {
-        l0 = read_exprs__leaf__travel(l1, l2, l3, l5);
+        {
+            struct core__result__Result__rt_tuple2_u64_Facts_Refusal r = read_exprs__leaf__travel(l1, l2, l3, l5);
+            l0.tag = r.tag;
+            l0.s0.f0 = r.s0.f0;
+            l0.s0.f1.f0 = r.s0.f1.f0;
+            l0.s0.f1.f1 = r.s0.f1.f1;
+            l0.s0.f1.f2 = r.s0.f1.f2;
+            l0.s0.f1.f3 = r.s0.f1.f3;
+            l0.s1.tag = r.s1.tag;
+        }
         return l0;
     }
     l6 = (uint8_t)(l4 == UINT8_C(19));
     if (l6) {
-        l0 = read_exprs__leaf__word(l1, UINT8_C(0), l5);
+        {
+            struct core__result__Result__rt_tuple2_u64_Facts_Refusal r = read_exprs__leaf__word(l1, UINT8_C(0), l5);
+            l0.tag = r.tag;
+            l0.s0.f0 = r.s0.f0;
+            l0.s0.f1.f0 = r.s0.f1.f0;
+            l0.s0.f1.f1 = r.s0.f1.f1;
+            l0.s0.f1.f2 = r.s0.f1.f2;
+            l0.s0.f1.f3 = r.s0.f1.f3;
+            l0.s1.tag = r.s1.tag;
+        }
         return l0;
     }
     l6 = (uint8_t)(l4 == UINT8_C(20));
     if (l6) {
-        l0 = read_exprs__leaf__word(l1, UINT8_C(1), l5);
+        {
+            struct core__result__Result__rt_tuple2_u64_Facts_Refusal r = read_exprs__leaf__word(l1, UINT8_C(1), l5);
+            l0.tag = r.tag;
+            l0.s0.f0 = r.s0.f0;
+            l0.s0.f1.f0 = r.s0.f1.f0;
+            l0.s0.f1.f1 = r.s0.f1.f1;
+            l0.s0.f1.f2 = r.s0.f1.f2;
+            l0.s0.f1.f3 = r.s0.f1.f3;
+            l0.s1.tag = r.s1.tag;
+        }
         return l0;
     }
     l6 = (uint8_t)(l4 == UINT8_C(21));
     if (l6) {
-        l0 = read_exprs__leaf__bool_byte(l1, l5);
+        {
+            struct core__result__Result__rt_tuple2_u64_Facts_Refusal r = read_exprs__leaf__bool_byte(l1, l5);
+            l0.tag = r.tag;
+            l0.s0.f0 = r.s0.f0;
+            l0.s0.f1.f0 = r.s0.f1.f0;
+            l0.s0.f1.f1 = r.s0.f1.f1;
+            l0.s0.f1.f2 = r.s0.f1.f2;
+            l0.s0.f1.f3 = r.s0.f1.f3;
+            l0.s1.tag = r.s1.tag;
+        }
         return l0;
     }
     l6 = (uint8_t)(l4 == UINT8_C(22));
     if (l6) {
         l7 = (*(struct read_exprs__read__Names *)l2).f0.n;
-        l0 = read_exprs__leaf__null(l1, l7, l5);
+        {
+            struct core__result__Result__rt_tuple2_u64_Facts_Refusal r = read_exprs__leaf__null(l1, l7, l5);
+            l0.tag = r.tag;
+            l0.s0.f0 = r.s0.f0;
+            l0.s0.f1.f0 = r.s0.f1.f0;
+            l0.s0.f1.f1 = r.s0.f1.f1;
+            l0.s0.f1.f2 = r.s0.f1.f2;
+            l0.s0.f1.f3 = r.s0.f1.f3;
+            l0.s1.tag = r.s1.tag;
+        }
         return l0;
     }
     l6 = (uint8_t)(l4 == UINT8_C(23));
@@ -15302,9 +14587,16 @@ static inline struct core__result__Result__rt_tuple2_u64_Facts_Refusal read_expr
         l10 = (uint8_t)((uint32_t)UINT8_C(16) + (uint32_t)l9);
         l8 = judging__expression__pushed(l10);
         l11.f0 = l5;
-        l11.f1 = l8;
+        l11.f1.f0 = l8.f0;
+        l11.f1.f1 = l8.f1;
+        l11.f1.f2 = l8.f2;
+        l11.f1.f3 = l8.f3;
         l0.tag = UINT8_C(0);
-        l0.s0 = l11;
+        l0.s0.f0 = l11.f0;
+        l0.s0.f1.f0 = l11.f1.f0;
+        l0.s0.f1.f1 = l11.f1.f1;
+        l0.s0.f1.f2 = l11.f1.f2;
+        l0.s0.f1.f3 = l11.f1.f3;
         return l0;
     }
     l12.tag = UINT8_C(4);
@@ -15316,93 +14608,86 @@ static inline struct core__result__Result__rt_tuple2_u64_Facts_Refusal read_expr
 static RT_HERE struct core__result__Result__rt_tuple2_u64_Facts_Refusal read_exprs__leaf__null(rt_slice l1, uint64_t l2, uint64_t l3)
 {
     struct core__result__Result__rt_tuple2_u64_Facts_Refusal l0;
-    uint8_t l4;
-    uint64_t l5;
-    struct rt_tuple2__u8_u64 l6;
-    struct core__result__ErrResidual__Refusal l7;
-    struct rt_tuple2__u8_u64 l8;
     struct core__ops__ControlFlow__ErrResidual_Refusal_rt_tuple2_u8_u64 l9;
     struct core__result__Result__rt_tuple2_u8_u64_Refusal l10;
-    struct rt_tuple2__u8_u64 l11;
     struct judge__Facts l12;
     struct rt_tuple2__u64_Facts l13;
     l10 = read_exprs__read__type_byte(l1, l2, l3);
     l9 = core__result__ResultTry__branch__rt_tuple2_u8_u64_Refusal(l10);
     switch (l9.tag) {
         case UINT8_C(0): {
-            l6.f0 = l9.s0.f0;
-            l6.f1 = l9.s0.f1;
-            l11.f0 = l6.f0;
-            l11.f1 = l6.f1;
             break;
         }
         case UINT8_C(1): default: {
-            l7.f0 = l9.s1.f0;
-            l0 = core__result__ResultFromResidualErrResidual__from_resi_fbfd7bc2(l7);
+            {
+                struct core__result__Result__rt_tuple2_u64_Facts_Refusal r = core__result__ResultFromResidualErrResidual__from_resi_fbfd7bc2(l9.s1);
+                l0.tag = r.tag;
+                l0.s0.f0 = r.s0.f0;
+                l0.s0.f1.f0 = r.s0.f1.f0;
+                l0.s0.f1.f1 = r.s0.f1.f1;
+                l0.s0.f1.f2 = r.s0.f1.f2;
+                l0.s0.f1.f3 = r.s0.f1.f3;
+                l0.s1.tag = r.s1.tag;
+            }
             return l0;
             break;
         }
     }
-    l8.f0 = l11.f0;
-    l8.f1 = l11.f1;
-    l4 = l8.f0;
-    l5 = l8.f1;
-    l12 = judging__expression__pushed(l4);
-    l13.f0 = l5;
-    l13.f1 = l12;
+    l12 = judging__expression__pushed(l9.s0.f0);
+    l13.f0 = l9.s0.f1;
+    l13.f1.f0 = l12.f0;
+    l13.f1.f1 = l12.f1;
+    l13.f1.f2 = l12.f2;
+    l13.f1.f3 = l12.f3;
     l0.tag = UINT8_C(0);
-    l0.s0 = l13;
+    l0.s0.f0 = l13.f0;
+    l0.s0.f1.f0 = l13.f1.f0;
+    l0.s0.f1.f1 = l13.f1.f1;
+    l0.s0.f1.f2 = l13.f1.f2;
+    l0.s0.f1.f3 = l13.f1.f3;
     return l0;
 }
 
 static RT_HERE struct core__result__Result__rt_tuple2_u64_Facts_Refusal read_exprs__leaf__travel(rt_slice l1, uint8_t *l2, uint64_t l3, uint64_t l4)
 {
     struct core__result__Result__rt_tuple2_u64_Facts_Refusal l0;
-    uint64_t l5;
-    uint8_t l6;
-    struct judge__Judged l7;
-    struct rt_tuple3__u64_u8_Judged l8;
-    struct core__result__ErrResidual__Refusal l9;
-    struct rt_tuple3__u64_u8_Judged l10;
     struct core__ops__ControlFlow__ErrResidual_Refusal_rt_tuple3__6dda1656 l11;
     struct core__result__Result__rt_tuple3_u64_u8_Judged_Refusal l12;
-    struct rt_tuple3__u64_u8_Judged l13;
     struct judge__Facts l14;
     struct rt_tuple2__u64_Facts l15;
     l12 = read_exprs__path__path(l1, l2, l3, l4);
     l11 = core__result__ResultTry__branch__rt_tuple3_u64_u8_Judg_d80f38d1(l12);
     switch (l11.tag) {
         case UINT8_C(0): {
-            l8.f0 = l11.s0.f0;
-            l8.f1 = l11.s0.f1;
-            l8.f2.f0 = l11.s0.f2.f0;
-            l8.f2.f1 = l11.s0.f2.f1;
-            l13.f0 = l8.f0;
-            l13.f1 = l8.f1;
-            l13.f2.f0 = l8.f2.f0;
-            l13.f2.f1 = l8.f2.f1;
             break;
         }
         case UINT8_C(1): default: {
-            l9.f0 = l11.s1.f0;
-            l0 = core__result__ResultFromResidualErrResidual__from_resi_fbfd7bc2(l9);
+            {
+                struct core__result__Result__rt_tuple2_u64_Facts_Refusal r = core__result__ResultFromResidualErrResidual__from_resi_fbfd7bc2(l11.s1);
+                l0.tag = r.tag;
+                l0.s0.f0 = r.s0.f0;
+                l0.s0.f1.f0 = r.s0.f1.f0;
+                l0.s0.f1.f1 = r.s0.f1.f1;
+                l0.s0.f1.f2 = r.s0.f1.f2;
+                l0.s0.f1.f3 = r.s0.f1.f3;
+                l0.s1.tag = r.s1.tag;
+            }
             return l0;
             break;
         }
     }
-    l10.f0 = l13.f0;
-    l10.f1 = l13.f1;
-    l10.f2.f0 = l13.f2.f0;
-    l10.f2.f1 = l13.f2.f1;
-    l5 = l10.f0;
-    l6 = l10.f1;
-    l7.f0 = l10.f2.f0;
-    l7.f1 = l10.f2.f1;
-    l14 = judging__expression__travelled(l6, l7);
-    l15.f0 = l5;
-    l15.f1 = l14;
+    l14 = judging__expression__travelled(l11.s0.f1, l11.s0.f2);
+    l15.f0 = l11.s0.f0;
+    l15.f1.f0 = l14.f0;
+    l15.f1.f1 = l14.f1;
+    l15.f1.f2 = l14.f2;
+    l15.f1.f3 = l14.f3;
     l0.tag = UINT8_C(0);
-    l0.s0 = l15;
+    l0.s0.f0 = l15.f0;
+    l0.s0.f1.f0 = l15.f1.f0;
+    l0.s0.f1.f1 = l15.f1.f1;
+    l0.s0.f1.f2 = l15.f1.f2;
+    l0.s0.f1.f3 = l15.f1.f3;
     return l0;
 }
 
@@ -15427,24 +14712,25 @@ static RT_HERE struct core__result__Result__rt_tuple2_u64_Facts_Refusal read_exp
     l4 = (uint64_t)((uint64_t)l3 + (uint64_t)UINT64_C(4));
     l8 = judging__expression__pushed(l2);
     l9.f0 = l4;
-    l9.f1 = l8;
+    l9.f1.f0 = l8.f0;
+    l9.f1.f1 = l8.f1;
+    l9.f1.f2 = l8.f2;
+    l9.f1.f3 = l8.f3;
     l0.tag = UINT8_C(0);
-    l0.s0 = l9;
+    l0.s0.f0 = l9.f0;
+    l0.s0.f1.f0 = l9.f1.f0;
+    l0.s0.f1.f1 = l9.f1.f1;
+    l0.s0.f1.f2 = l9.f1.f2;
+    l0.s0.f1.f3 = l9.f1.f3;
     return l0;
 }
 
 static RT_HERE struct core__result__Result__rt_tuple3_u64_u8_Judged_Refusal read_exprs__path__first(rt_slice l1, uint8_t *l2, uint64_t l3, uint8_t l4, uint64_t l5)
 {
     struct core__result__Result__rt_tuple3_u64_u8_Judged_Refusal l0;
-    uint8_t l6;
-    uint64_t l7;
-    struct rt_tuple2__u8_u64 l8;
-    struct core__result__ErrResidual__Refusal l9;
     struct judge__Judged l10;
-    struct rt_tuple2__u8_u64 l11;
     struct core__ops__ControlFlow__ErrResidual_Refusal_rt_tuple2_u8_u64 l12;
     struct core__result__Result__rt_tuple2_u8_u64_Refusal l13;
-    struct rt_tuple2__u8_u64 l14;
     rt_slice l15;
     rt_slice l16;
     uint8_t l17;
@@ -15452,29 +14738,36 @@ static RT_HERE struct core__result__Result__rt_tuple3_u64_u8_Judged_Refusal read
     l12 = core__result__ResultTry__branch__rt_tuple2_u8_u64_Refusal(l13);
     switch (l12.tag) {
         case UINT8_C(0): {
-            l8.f0 = l12.s0.f0;
-            l8.f1 = l12.s0.f1;
-            l14.f0 = l8.f0;
-            l14.f1 = l8.f1;
             break;
         }
         case UINT8_C(1): default: {
-            l9.f0 = l12.s1.f0;
-            l0 = core__result__ResultFromResidualErrResidual__from_resi_29dc3d9d(l9);
+            {
+                struct core__result__Result__rt_tuple3_u64_u8_Judged_Refusal r = core__result__ResultFromResidualErrResidual__from_resi_29dc3d9d(l12.s1);
+                l0.tag = r.tag;
+                l0.s0.f0 = r.s0.f0;
+                l0.s0.f1 = r.s0.f1;
+                l0.s0.f2.f0 = r.s0.f2.f0;
+                l0.s0.f2.f1 = r.s0.f2.f1;
+                l0.s1.tag = r.s1.tag;
+            }
             return l0;
             break;
         }
     }
-    l11.f0 = l14.f0;
-    l11.f1 = l14.f1;
-    l6 = l11.f0;
-    l7 = l11.f1;
     l15 = (*(struct read_exprs__read__Names *)l2).f0;
     l16 = (*(struct read_exprs__read__Names *)l2).f1;
     l17 = (*(struct read_exprs__read__Names *)l2).f2;
-    l10 = judging__path__start(l15, l16, l17, l3, l6);
+    l10 = judging__path__start(l15, l16, l17, l3, l12.s0.f0);
     l17 = (uint8_t)((uint32_t)l4 - (uint32_t)UINT8_C(1));
-    l0 = read_exprs__path__follow(l1, l2, l10, l17, UINT8_C(1), l7);
+    {
+        struct core__result__Result__rt_tuple3_u64_u8_Judged_Refusal r = read_exprs__path__follow(l1, l2, l10, l17, UINT8_C(1), l12.s0.f1);
+        l0.tag = r.tag;
+        l0.s0.f0 = r.s0.f0;
+        l0.s0.f1 = r.s0.f1;
+        l0.s0.f2.f0 = r.s0.f2.f0;
+        l0.s0.f2.f1 = r.s0.f2.f1;
+        l0.s1.tag = r.s1.tag;
+    }
     return l0;
 }
 
@@ -15484,15 +14777,9 @@ static RT_HERE struct core__result__Result__rt_tuple3_u64_u8_Judged_Refusal read
     struct judge__Judged l7;
     uint64_t l8;
     uint8_t l9;
-    uint8_t l10;
-    uint64_t l11;
-    struct rt_tuple2__u8_u64 l12;
-    struct core__result__ErrResidual__Refusal l13;
     uint8_t l14;
-    struct rt_tuple2__u8_u64 l15;
     struct core__ops__ControlFlow__ErrResidual_Refusal_rt_tuple2_u8_u64 l16;
     struct core__result__Result__rt_tuple2_u8_u64_Refusal l17;
-    struct rt_tuple2__u8_u64 l18;
     rt_slice l19;
     rt_slice l20;
     uint8_t l21;
@@ -15511,74 +14798,78 @@ static RT_HERE struct core__result__Result__rt_tuple3_u64_u8_Judged_Refusal read
         l16 = core__result__ResultTry__branch__rt_tuple2_u8_u64_Refusal(l17);
         switch (l16.tag) {
             case UINT8_C(0): {
-                l12.f0 = l16.s0.f0;
-                l12.f1 = l16.s0.f1;
-                l18.f0 = l12.f0;
-                l18.f1 = l12.f1;
                 break;
             }
             case UINT8_C(1): default: {
-                l13.f0 = l16.s1.f0;
-                l0 = core__result__ResultFromResidualErrResidual__from_resi_29dc3d9d(l13);
+                {
+                    struct core__result__Result__rt_tuple3_u64_u8_Judged_Refusal r = core__result__ResultFromResidualErrResidual__from_resi_29dc3d9d(l16.s1);
+                    l0.tag = r.tag;
+                    l0.s0.f0 = r.s0.f0;
+                    l0.s0.f1 = r.s0.f1;
+                    l0.s0.f2.f0 = r.s0.f2.f0;
+                    l0.s0.f2.f1 = r.s0.f2.f1;
+                    l0.s1.tag = r.s1.tag;
+                }
                 return l0;
                 break;
             }
         }
-        l15.f0 = l18.f0;
-        l15.f1 = l18.f1;
-        l10 = l15.f0;
-        l11 = l15.f1;
         l19 = (*(struct read_exprs__read__Names *)l2).f0;
         l20 = (*(struct read_exprs__read__Names *)l2).f1;
-        l7 = judging__path__lead_by(l19, l20, l7, l10);
-        l8 = l11;
+        l7 = judging__path__lead_by(l19, l20, l7, l16.s0.f0);
+        l8 = l16.s0.f1;
         l9 = (uint8_t)((uint32_t)l9 + (uint32_t)UINT8_C(1));
     }
 end1:;
     l21 = (uint8_t)((uint32_t)l4 + (uint32_t)l5);
     l22.f0 = l8;
     l22.f1 = l21;
-    l22.f2 = l7;
+    l22.f2.f0 = l7.f0;
+    l22.f2.f1 = l7.f1;
     l0.tag = UINT8_C(0);
-    l0.s0 = l22;
+    l0.s0.f0 = l22.f0;
+    l0.s0.f1 = l22.f1;
+    l0.s0.f2.f0 = l22.f2.f0;
+    l0.s0.f2.f1 = l22.f2.f1;
     return l0;
 }
 
 static RT_HERE struct core__result__Result__rt_tuple3_u64_u8_Judged_Refusal read_exprs__path__path(rt_slice l1, uint8_t *l2, uint64_t l3, uint64_t l4)
 {
     struct core__result__Result__rt_tuple3_u64_u8_Judged_Refusal l0;
-    uint8_t l5;
-    uint64_t l6;
-    struct rt_tuple2__u8_u64 l7;
-    struct core__result__ErrResidual__Refusal l8;
-    struct rt_tuple2__u8_u64 l9;
     struct core__ops__ControlFlow__ErrResidual_Refusal_rt_tuple2_u8_u64 l10;
     struct core__result__Result__rt_tuple2_u8_u64_Refusal l11;
     uint64_t l12;
-    struct rt_tuple2__u8_u64 l13;
     l12 = (uint64_t)((uint64_t)UINT64_C(4) + (uint64_t)UINT64_C(1));
     l11 = read_exprs__read__ranged(l1, UINT64_C(1), l12, l4);
     l10 = core__result__ResultTry__branch__rt_tuple2_u8_u64_Refusal(l11);
     switch (l10.tag) {
         case UINT8_C(0): {
-            l7.f0 = l10.s0.f0;
-            l7.f1 = l10.s0.f1;
-            l13.f0 = l7.f0;
-            l13.f1 = l7.f1;
             break;
         }
         case UINT8_C(1): default: {
-            l8.f0 = l10.s1.f0;
-            l0 = core__result__ResultFromResidualErrResidual__from_resi_29dc3d9d(l8);
+            {
+                struct core__result__Result__rt_tuple3_u64_u8_Judged_Refusal r = core__result__ResultFromResidualErrResidual__from_resi_29dc3d9d(l10.s1);
+                l0.tag = r.tag;
+                l0.s0.f0 = r.s0.f0;
+                l0.s0.f1 = r.s0.f1;
+                l0.s0.f2.f0 = r.s0.f2.f0;
+                l0.s0.f2.f1 = r.s0.f2.f1;
+                l0.s1.tag = r.s1.tag;
+            }
             return l0;
             break;
         }
     }
-    l9.f0 = l13.f0;
-    l9.f1 = l13.f1;
-    l5 = l9.f0;
-    l6 = l9.f1;
-    l0 = read_exprs__path__first(l1, l2, l3, l5, l6);
+    {
+        struct core__result__Result__rt_tuple3_u64_u8_Judged_Refusal r = read_exprs__path__first(l1, l2, l3, l10.s0.f0, l10.s0.f1);
+        l0.tag = r.tag;
+        l0.s0.f0 = r.s0.f0;
+        l0.s0.f1 = r.s0.f1;
+        l0.s0.f2.f0 = r.s0.f2.f0;
+        l0.s0.f2.f1 = r.s0.f2.f1;
+        l0.s1.tag = r.s1.tag;
+    }
     return l0;
 }
 
@@ -15605,7 +14896,8 @@ static RT_HERE struct core__result__Result__rt_tuple2_u8_u64_Refusal read_exprs_
     l8.f0 = l7;
     l8.f1 = l3;
     l0.tag = UINT8_C(0);
-    l0.s0 = l8;
+    l0.s0.f0 = l8.f0;
+    l0.s0.f1 = l8.f1;
     return l0;
 }
 
@@ -15623,15 +14915,9 @@ static inline uint8_t read_exprs__read__is_type(uint64_t l1, uint8_t l2)
 static inline struct core__result__Result__rt_tuple2_u8_u64_Refusal read_exprs__read__ranged(rt_slice l1, uint64_t l2, uint64_t l3, uint64_t l4)
 {
     struct core__result__Result__rt_tuple2_u8_u64_Refusal l0;
-    uint8_t l5;
-    uint64_t l6;
-    struct rt_tuple2__u8_u64 l7;
-    struct core__result__ErrResidual__Refusal l8;
     uint64_t l9;
-    struct rt_tuple2__u8_u64 l10;
     struct core__ops__ControlFlow__ErrResidual_Refusal_rt_tuple2_u8_u64 l11;
     struct core__result__Result__rt_tuple2_u8_u64_Refusal l12;
-    struct rt_tuple2__u8_u64 l13;
     uint8_t l14;
     uint8_t l15;
     struct types__refusal__Refusal l16;
@@ -15640,24 +14926,21 @@ static inline struct core__result__Result__rt_tuple2_u8_u64_Refusal read_exprs__
     l11 = core__result__ResultTry__branch__rt_tuple2_u8_u64_Refusal(l12);
     switch (l11.tag) {
         case UINT8_C(0): {
-            l7.f0 = l11.s0.f0;
-            l7.f1 = l11.s0.f1;
-            l13.f0 = l7.f0;
-            l13.f1 = l7.f1;
             break;
         }
         case UINT8_C(1): default: {
-            l8.f0 = l11.s1.f0;
-            l0 = core__result__ResultFromResidualErrResidual__from_resi_79390567(l8);
+            {
+                struct core__result__Result__rt_tuple2_u8_u64_Refusal r = core__result__ResultFromResidualErrResidual__from_resi_79390567(l11.s1);
+                l0.tag = r.tag;
+                l0.s0.f0 = r.s0.f0;
+                l0.s0.f1 = r.s0.f1;
+                l0.s1.tag = r.s1.tag;
+            }
             return l0;
             break;
         }
     }
-    l10.f0 = l13.f0;
-    l10.f1 = l13.f1;
-    l5 = l10.f0;
-    l6 = l10.f1;
-    l9 = core__convert__UsizeFromU8__from(l5);
+    l9 = core__convert__UsizeFromU8__from(l11.s0.f0);
     l14 = (uint8_t)(l9 < l2);
     if (l14) {
     } else {
@@ -15675,24 +14958,19 @@ static inline struct core__result__Result__rt_tuple2_u8_u64_Refusal read_exprs__
     goto end1;
 end2:;
 end1:;
-    l17.f0 = l5;
-    l17.f1 = l6;
+    l17.f0 = l11.s0.f0;
+    l17.f1 = l11.s0.f1;
     l0.tag = UINT8_C(0);
-    l0.s0 = l17;
+    l0.s0.f0 = l17.f0;
+    l0.s0.f1 = l17.f1;
     return l0;
 }
 
 static RT_HERE struct core__result__Result__rt_tuple2_u8_u64_Refusal read_exprs__read__type_byte(rt_slice l1, uint64_t l2, uint64_t l3)
 {
     struct core__result__Result__rt_tuple2_u8_u64_Refusal l0;
-    uint8_t l4;
-    uint64_t l5;
-    struct rt_tuple2__u8_u64 l6;
-    struct core__result__ErrResidual__Refusal l7;
-    struct rt_tuple2__u8_u64 l8;
     struct core__ops__ControlFlow__ErrResidual_Refusal_rt_tuple2_u8_u64 l9;
     struct core__result__Result__rt_tuple2_u8_u64_Refusal l10;
-    struct rt_tuple2__u8_u64 l11;
     uint8_t l12;
     uint8_t l13;
     struct types__refusal__Refusal l14;
@@ -15701,24 +14979,21 @@ static RT_HERE struct core__result__Result__rt_tuple2_u8_u64_Refusal read_exprs_
     l9 = core__result__ResultTry__branch__rt_tuple2_u8_u64_Refusal(l10);
     switch (l9.tag) {
         case UINT8_C(0): {
-            l6.f0 = l9.s0.f0;
-            l6.f1 = l9.s0.f1;
-            l11.f0 = l6.f0;
-            l11.f1 = l6.f1;
             break;
         }
         case UINT8_C(1): default: {
-            l7.f0 = l9.s1.f0;
-            l0 = core__result__ResultFromResidualErrResidual__from_resi_79390567(l7);
+            {
+                struct core__result__Result__rt_tuple2_u8_u64_Refusal r = core__result__ResultFromResidualErrResidual__from_resi_79390567(l9.s1);
+                l0.tag = r.tag;
+                l0.s0.f0 = r.s0.f0;
+                l0.s0.f1 = r.s0.f1;
+                l0.s1.tag = r.s1.tag;
+            }
             return l0;
             break;
         }
     }
-    l8.f0 = l11.f0;
-    l8.f1 = l11.f1;
-    l4 = l8.f0;
-    l5 = l8.f1;
-    l12 = read_exprs__read__is_type(l2, l4);
+    l12 = read_exprs__read__is_type(l2, l9.s0.f0);
     l13 = (uint8_t)!l12;
     if (l13) {
         l14.tag = UINT8_C(4);
@@ -15726,10 +15001,11 @@ static RT_HERE struct core__result__Result__rt_tuple2_u8_u64_Refusal read_exprs_
         l0.s1 = l14;
         return l0;
     }
-    l15.f0 = l4;
-    l15.f1 = l5;
+    l15.f0 = l9.s0.f0;
+    l15.f1 = l9.s0.f1;
     l0.tag = UINT8_C(0);
-    l0.s0 = l15;
+    l0.s0.f0 = l15.f0;
+    l0.s0.f1 = l15.f1;
     return l0;
 }
 
@@ -15753,15 +15029,9 @@ static inline void read_params__clear(rt_slice l1, uint64_t l2, uint64_t l3)
 static RT_HERE struct core__result__Result__u64_Refusal read_params__list(rt_slice l1, rt_slice l2, rt_slice l3, uint64_t l4, uint64_t l5, uint64_t l6)
 {
     struct core__result__Result__u64_Refusal l0;
-    uint8_t l7;
-    uint64_t l8;
-    struct rt_tuple2__u8_u64 l9;
-    struct core__result__ErrResidual__Refusal l10;
-    struct rt_tuple2__u8_u64 l11;
     struct core__ops__ControlFlow__ErrResidual_Refusal_rt_tuple2_u8_u64 l12;
     struct core__result__Result__rt_tuple2_u8_u64_Refusal l13;
     uint64_t l14;
-    struct rt_tuple2__u8_u64 l15;
     uint8_t *l16;
     uint8_t *l17;
     rt_slice l18;
@@ -15771,31 +15041,22 @@ static RT_HERE struct core__result__Result__u64_Refusal read_params__list(rt_sli
     l12 = core__result__ResultTry__branch__rt_tuple2_u8_u64_Refusal(l13);
     switch (l12.tag) {
         case UINT8_C(0): {
-            l9.f0 = l12.s0.f0;
-            l9.f1 = l12.s0.f1;
-            l15.f0 = l9.f0;
-            l15.f1 = l9.f1;
             break;
         }
         case UINT8_C(1): default: {
-            l10.f0 = l12.s1.f0;
-            l0 = core__result__ResultFromResidualErrResidual__from_resi_f9cf8d89(l10);
+            l0 = core__result__ResultFromResidualErrResidual__from_resi_f9cf8d89(l12.s1);
             return l0;
             break;
         }
     }
-    l11.f0 = l15.f0;
-    l11.f1 = l15.f1;
-    l7 = l11.f0;
-    l8 = l11.f1;
     l16 = l2.p + (size_t)l5;
-    (*(uint8_t *)l16) = l7;
+    (*(uint8_t *)l16) = l12.s0.f0;
     l17 = (uint8_t *)&(*(uint8_t *)l3.p);
     l18.p = l17;
     l18.n = l3.n;
-    l14 = core__convert__UsizeFromU8__from(l7);
+    l14 = core__convert__UsizeFromU8__from(l12.s0.f0);
     l19 = (uint64_t)((uint64_t)UINT64_C(8) * (uint64_t)l5);
-    l0 = read_params__row(l1, l18, l4, l14, UINT64_C(8), l19, l8);
+    l0 = read_params__row(l1, l18, l4, l14, UINT64_C(8), l19, l12.s0.f1);
     return l0;
 }
 
@@ -15804,8 +15065,6 @@ static RT_HERE struct core__result__Result__u64_Refusal read_params__lists(rt_sl
     struct core__result__Result__u64_Refusal l0;
     uint64_t l6;
     uint64_t l7;
-    uint64_t l8;
-    struct core__result__ErrResidual__Refusal l9;
     uint8_t l10;
     struct core__ops__ControlFlow__ErrResidual_Refusal_u64 l11;
     struct core__result__Result__u64_Refusal l12;
@@ -15813,7 +15072,6 @@ static RT_HERE struct core__result__Result__u64_Refusal read_params__lists(rt_sl
     rt_slice l14;
     uint8_t *l15;
     rt_slice l16;
-    uint64_t l17;
     l6 = l5;
     l7 = UINT64_C(0);
     for (;;) {
@@ -15832,18 +15090,15 @@ static RT_HERE struct core__result__Result__u64_Refusal read_params__lists(rt_sl
         l11 = core__result__ResultTry__branch__u64_Refusal(l12);
         switch (l11.tag) {
             case UINT8_C(0): {
-                l8 = l11.s0;
-                l17 = l8;
                 break;
             }
             case UINT8_C(1): default: {
-                l9.f0 = l11.s1.f0;
-                l0 = core__result__ResultFromResidualErrResidual__from_resi_f9cf8d89(l9);
+                l0 = core__result__ResultFromResidualErrResidual__from_resi_f9cf8d89(l11.s1);
                 return l0;
                 break;
             }
         }
-        l6 = l17;
+        l6 = l11.s0;
         l7 = (uint64_t)((uint64_t)l7 + (uint64_t)UINT64_C(1));
     }
 end1:;
@@ -15855,75 +15110,65 @@ end1:;
 static RT_HERE struct core__result__Result__rt_tuple2_u64_u8_Refusal read_params__params(rt_slice l1, rt_slice l2, rt_slice l3)
 {
     struct core__result__Result__rt_tuple2_u64_u8_Refusal l0;
-    uint8_t l4;
-    uint64_t l5;
-    struct rt_tuple2__u8_u64 l6;
-    struct core__result__ErrResidual__Refusal l7;
-    uint64_t l8;
-    uint64_t l9;
-    struct core__result__ErrResidual__Refusal l10;
-    struct rt_tuple2__u8_u64 l11;
     struct core__ops__ControlFlow__ErrResidual_Refusal_rt_tuple2_u8_u64 l12;
     struct core__result__Result__rt_tuple2_u8_u64_Refusal l13;
     uint64_t l14;
-    struct rt_tuple2__u8_u64 l15;
     struct core__ops__ControlFlow__ErrResidual_Refusal_u64 l16;
     struct core__result__Result__u64_Refusal l17;
     uint8_t *l18;
     rt_slice l19;
     uint8_t *l20;
     rt_slice l21;
-    uint64_t l22;
     struct rt_tuple2__u64_u8 l23;
     l14 = (uint64_t)((uint64_t)UINT64_C(16) + (uint64_t)UINT64_C(1));
     l13 = read_exprs__read__ranged(l1, UINT64_C(1), l14, UINT64_C(0));
     l12 = core__result__ResultTry__branch__rt_tuple2_u8_u64_Refusal(l13);
     switch (l12.tag) {
         case UINT8_C(0): {
-            l6.f0 = l12.s0.f0;
-            l6.f1 = l12.s0.f1;
-            l15.f0 = l6.f0;
-            l15.f1 = l6.f1;
             break;
         }
         case UINT8_C(1): default: {
-            l7.f0 = l12.s1.f0;
-            l0 = core__result__ResultFromResidualErrResidual__from_resi_199ff778(l7);
+            {
+                struct core__result__Result__rt_tuple2_u64_u8_Refusal r = core__result__ResultFromResidualErrResidual__from_resi_199ff778(l12.s1);
+                l0.tag = r.tag;
+                l0.s0.f0 = r.s0.f0;
+                l0.s0.f1 = r.s0.f1;
+                l0.s1.tag = r.s1.tag;
+            }
             return l0;
             break;
         }
     }
-    l11.f0 = l15.f0;
-    l11.f1 = l15.f1;
-    l4 = l11.f0;
-    l5 = l11.f1;
     l18 = (uint8_t *)&(*(uint8_t *)l2.p);
     l19.p = l18;
     l19.n = l2.n;
     l20 = (uint8_t *)&(*(uint8_t *)l3.p);
     l21.p = l20;
     l21.n = l3.n;
-    l14 = core__convert__UsizeFromU8__from(l4);
-    l17 = read_params__lists(l1, l19, l21, l14, l5);
+    l14 = core__convert__UsizeFromU8__from(l12.s0.f0);
+    l17 = read_params__lists(l1, l19, l21, l14, l12.s0.f1);
     l16 = core__result__ResultTry__branch__u64_Refusal(l17);
     switch (l16.tag) {
         case UINT8_C(0): {
-            l9 = l16.s0;
-            l22 = l9;
             break;
         }
         case UINT8_C(1): default: {
-            l10.f0 = l16.s1.f0;
-            l0 = core__result__ResultFromResidualErrResidual__from_resi_199ff778(l10);
+            {
+                struct core__result__Result__rt_tuple2_u64_u8_Refusal r = core__result__ResultFromResidualErrResidual__from_resi_199ff778(l16.s1);
+                l0.tag = r.tag;
+                l0.s0.f0 = r.s0.f0;
+                l0.s0.f1 = r.s0.f1;
+                l0.s1.tag = r.s1.tag;
+            }
             return l0;
             break;
         }
     }
-    l8 = l22;
-    l23.f0 = l8;
-    l23.f1 = l4;
+    l23.f0 = l16.s0;
+    l23.f1 = l12.s0.f0;
     l0.tag = UINT8_C(0);
-    l0.s0 = l23;
+    l0.s0.f0 = l23.f0;
+    l0.s0.f1 = l23.f1;
     return l0;
 }
 
@@ -15932,15 +15177,9 @@ static RT_HERE struct core__result__Result__u64_Refusal read_params__row(rt_slic
     struct core__result__Result__u64_Refusal l0;
     uint64_t l8;
     uint64_t l9;
-    uint8_t l10;
-    uint64_t l11;
-    struct rt_tuple2__u8_u64 l12;
-    struct core__result__ErrResidual__Refusal l13;
     uint8_t l14;
-    struct rt_tuple2__u8_u64 l15;
     struct core__ops__ControlFlow__ErrResidual_Refusal_rt_tuple2_u8_u64 l16;
     struct core__result__Result__rt_tuple2_u8_u64_Refusal l17;
-    struct rt_tuple2__u8_u64 l18;
     uint64_t l19;
     uint8_t *l20;
     uint8_t *l22;
@@ -15959,27 +15198,18 @@ static RT_HERE struct core__result__Result__u64_Refusal read_params__row(rt_slic
         l16 = core__result__ResultTry__branch__rt_tuple2_u8_u64_Refusal(l17);
         switch (l16.tag) {
             case UINT8_C(0): {
-                l12.f0 = l16.s0.f0;
-                l12.f1 = l16.s0.f1;
-                l18.f0 = l12.f0;
-                l18.f1 = l12.f1;
                 break;
             }
             case UINT8_C(1): default: {
-                l13.f0 = l16.s1.f0;
-                l0 = core__result__ResultFromResidualErrResidual__from_resi_f9cf8d89(l13);
+                l0 = core__result__ResultFromResidualErrResidual__from_resi_f9cf8d89(l16.s1);
                 return l0;
                 break;
             }
         }
-        l15.f0 = l18.f0;
-        l15.f1 = l18.f1;
-        l10 = l15.f0;
-        l11 = l15.f1;
         l19 = (uint64_t)((uint64_t)l6 + (uint64_t)l9);
         l20 = l2.p + (size_t)l19;
-        (*(uint8_t *)l20) = l10;
-        l8 = l11;
+        (*(uint8_t *)l20) = l16.s0.f0;
+        l8 = l16.s0.f1;
         l9 = (uint64_t)((uint64_t)l9 + (uint64_t)UINT64_C(1));
     }
 end1:;
@@ -15998,17 +15228,10 @@ static RT_HERE struct core__result__Result__rt_tuple2_u64_Summary_Refusal read_p
 {
     struct core__result__Result__rt_tuple2_u64_Summary_Refusal l0;
     struct read_schedule__Steps l7;
-    uint64_t l8;
-    struct read_schedule__Planned l9;
-    struct rt_tuple2__u64_Planned l10;
-    struct core__result__ErrResidual__Refusal l11;
     uint8_t l12;
-    struct rt_tuple2__u64_Planned l13;
     struct core__ops__ControlFlow__ErrResidual_Refusal_rt_tuple2__d7d566f0 l14;
     struct core__result__Result__rt_tuple2_u64_Planned_Refusal l15;
     uint8_t *l16;
-    struct rt_tuple2__u64_Planned l17;
-    uint64_t l18;
     uint8_t l19;
     struct types__refusal__Refusal l20;
     struct read_program__Summary l21;
@@ -16022,40 +15245,48 @@ static RT_HERE struct core__result__Result__rt_tuple2_u64_Summary_Refusal read_p
     l14 = core__result__ResultTry__branch__rt_tuple2_u64_Planned_Refusal(l15);
     switch (l14.tag) {
         case UINT8_C(0): {
-            l10.f0 = l14.s0.f0;
-            l10.f1.f0 = l14.s0.f1.f0;
-            l10.f1.f1 = l14.s0.f1.f1;
-            l17.f0 = l10.f0;
-            l17.f1.f0 = l10.f1.f0;
-            l17.f1.f1 = l10.f1.f1;
             break;
         }
         case UINT8_C(1): default: {
-            l11.f0 = l14.s1.f0;
-            l0 = core__result__ResultFromResidualErrResidual__from_resi_9aee97b7(l11);
+            {
+                struct core__result__Result__rt_tuple2_u64_Summary_Refusal r = core__result__ResultFromResidualErrResidual__from_resi_9aee97b7(l14.s1);
+                l0.tag = r.tag;
+                l0.s0.f0 = r.s0.f0;
+                l0.s0.f1.f0 = r.s0.f1.f0;
+                l0.s0.f1.f1 = r.s0.f1.f1;
+                l0.s0.f1.f2 = r.s0.f1.f2;
+                l0.s0.f1.f3 = r.s0.f1.f3;
+                l0.s0.f1.f4 = r.s0.f1.f4;
+                l0.s0.f1.f5 = r.s0.f1.f5;
+                l0.s1.tag = r.s1.tag;
+            }
             return l0;
             break;
         }
     }
-    l13.f0 = l17.f0;
-    l13.f1.f0 = l17.f1.f0;
-    l13.f1.f1 = l17.f1.f1;
-    l8 = l13.f0;
-    l9.f0 = l13.f1.f0;
-    l9.f1 = l13.f1.f1;
-    l18 = l1.n;
-    l19 = (uint8_t)(l8 < l18);
+    l19 = (uint8_t)(l14.s0.f0 < l1.n);
     if (l19) {
         l20.tag = UINT8_C(3);
         l0.tag = UINT8_C(1);
         l0.s1 = l20;
         return l0;
     }
-    l21 = read_program__summed(l3, l6, l5, l9);
+    l21 = read_program__summed(l3, l6, l5, l14.s0.f1);
     l22.f0 = l4;
-    l22.f1 = l21;
+    l22.f1.f0 = l21.f0;
+    l22.f1.f1 = l21.f1;
+    l22.f1.f2 = l21.f2;
+    l22.f1.f3 = l21.f3;
+    l22.f1.f4 = l21.f4;
+    l22.f1.f5 = l21.f5;
     l0.tag = UINT8_C(0);
-    l0.s0 = l22;
+    l0.s0.f0 = l22.f0;
+    l0.s0.f1.f0 = l22.f1.f0;
+    l0.s0.f1.f1 = l22.f1.f1;
+    l0.s0.f1.f2 = l22.f1.f2;
+    l0.s0.f1.f3 = l22.f1.f3;
+    l0.s0.f1.f4 = l22.f1.f4;
+    l0.s0.f1.f5 = l22.f1.f5;
     return l0;
 }
 
@@ -16094,20 +15325,14 @@ end1:;
 static RT_HERE struct core__result__Result__rt_tuple2_u64_Summary_Refusal read_program__program(rt_slice l1, rt_slice l2, rt_slice l3, rt_slice l4)
 {
     struct core__result__Result__rt_tuple2_u64_Summary_Refusal l0;
-    uint64_t l5;
-    uint8_t l6;
-    struct rt_tuple2__u64_u8 l7;
-    struct core__result__ErrResidual__Refusal l8;
     uint64_t l9;
     uint64_t l10;
-    struct rt_tuple2__u64_u8 l11;
     struct core__ops__ControlFlow__ErrResidual_Refusal_rt_tuple2_u64_u8 l12;
     struct core__result__Result__rt_tuple2_u64_u8_Refusal l13;
     uint8_t *l14;
     rt_slice l15;
     uint8_t *l16;
     rt_slice l17;
-    struct rt_tuple2__u64_u8 l18;
     uint8_t *l19;
     rt_slice l20;
     uint8_t *l21;
@@ -16124,24 +15349,26 @@ static RT_HERE struct core__result__Result__rt_tuple2_u64_Summary_Refusal read_p
     l12 = core__result__ResultTry__branch__rt_tuple2_u64_u8_Refusal(l13);
     switch (l12.tag) {
         case UINT8_C(0): {
-            l7.f0 = l12.s0.f0;
-            l7.f1 = l12.s0.f1;
-            l18.f0 = l7.f0;
-            l18.f1 = l7.f1;
             break;
         }
         case UINT8_C(1): default: {
-            l8.f0 = l12.s1.f0;
-            l0 = core__result__ResultFromResidualErrResidual__from_resi_9aee97b7(l8);
+            {
+                struct core__result__Result__rt_tuple2_u64_Summary_Refusal r = core__result__ResultFromResidualErrResidual__from_resi_9aee97b7(l12.s1);
+                l0.tag = r.tag;
+                l0.s0.f0 = r.s0.f0;
+                l0.s0.f1.f0 = r.s0.f1.f0;
+                l0.s0.f1.f1 = r.s0.f1.f1;
+                l0.s0.f1.f2 = r.s0.f1.f2;
+                l0.s0.f1.f3 = r.s0.f1.f3;
+                l0.s0.f1.f4 = r.s0.f1.f4;
+                l0.s0.f1.f5 = r.s0.f1.f5;
+                l0.s1.tag = r.s1.tag;
+            }
             return l0;
             break;
         }
     }
-    l11.f0 = l18.f0;
-    l11.f1 = l18.f1;
-    l5 = l11.f0;
-    l6 = l11.f1;
-    l9 = (uint64_t)l6;
+    l9 = (uint64_t)l12.s0.f1;
     l10 = (uint64_t)((uint64_t)UINT64_C(8) * (uint64_t)l9);
     l19 = (uint8_t *)&(*(uint8_t *)l2.p);
     l20.p = l19;
@@ -16152,24 +15379,29 @@ static RT_HERE struct core__result__Result__rt_tuple2_u64_Summary_Refusal read_p
     l23 = (uint8_t *)&(*(uint16_t *)l4.p);
     l24.p = l23;
     l24.n = l4.n;
-    l0 = read_program__rest(l1, l20, l22, l24, l6, l5);
+    {
+        struct core__result__Result__rt_tuple2_u64_Summary_Refusal r = read_program__rest(l1, l20, l22, l24, l12.s0.f1, l12.s0.f0);
+        l0.tag = r.tag;
+        l0.s0.f0 = r.s0.f0;
+        l0.s0.f1.f0 = r.s0.f1.f0;
+        l0.s0.f1.f1 = r.s0.f1.f1;
+        l0.s0.f1.f2 = r.s0.f1.f2;
+        l0.s0.f1.f3 = r.s0.f1.f3;
+        l0.s0.f1.f4 = r.s0.f1.f4;
+        l0.s0.f1.f5 = r.s0.f1.f5;
+        l0.s1.tag = r.s1.tag;
+    }
     return l0;
 }
 
 static RT_HERE struct core__result__Result__rt_tuple2_u64_Summary_Refusal read_program__rest(rt_slice l1, rt_slice l2, rt_slice l3, rt_slice l4, uint8_t l5, uint64_t l6)
 {
     struct core__result__Result__rt_tuple2_u64_Summary_Refusal l0;
-    uint64_t l7;
-    struct read_program__totals__Totals l8;
-    struct rt_tuple2__u64_Totals l9;
-    struct core__result__ErrResidual__Refusal l10;
-    struct rt_tuple2__u64_Totals l11;
     struct core__ops__ControlFlow__ErrResidual_Refusal_rt_tuple2__da2d7d9c l12;
     struct core__result__Result__rt_tuple2_u64_Totals_Refusal l13;
     uint8_t *l14;
     rt_slice l15;
     struct read_program__totals__Totals l16;
-    struct rt_tuple2__u64_Totals l17;
     uint8_t *l18;
     rt_slice l19;
     l14 = (uint8_t *)&(*(uint16_t *)l4.p);
@@ -16180,43 +15412,40 @@ static RT_HERE struct core__result__Result__rt_tuple2_u64_Summary_Refusal read_p
     l12 = core__result__ResultTry__branch__rt_tuple2_u64_Totals_Refusal(l13);
     switch (l12.tag) {
         case UINT8_C(0): {
-            l9.f0 = l12.s0.f0;
-            l9.f1.f0 = l12.s0.f1.f0;
-            l9.f1.f1 = l12.s0.f1.f1;
-            l9.f1.f2 = l12.s0.f1.f2;
-            l9.f1.f3 = l12.s0.f1.f3;
-            l9.f1.f4 = l12.s0.f1.f4;
-            l17.f0 = l9.f0;
-            l17.f1.f0 = l9.f1.f0;
-            l17.f1.f1 = l9.f1.f1;
-            l17.f1.f2 = l9.f1.f2;
-            l17.f1.f3 = l9.f1.f3;
-            l17.f1.f4 = l9.f1.f4;
             break;
         }
         case UINT8_C(1): default: {
-            l10.f0 = l12.s1.f0;
-            l0 = core__result__ResultFromResidualErrResidual__from_resi_9aee97b7(l10);
+            {
+                struct core__result__Result__rt_tuple2_u64_Summary_Refusal r = core__result__ResultFromResidualErrResidual__from_resi_9aee97b7(l12.s1);
+                l0.tag = r.tag;
+                l0.s0.f0 = r.s0.f0;
+                l0.s0.f1.f0 = r.s0.f1.f0;
+                l0.s0.f1.f1 = r.s0.f1.f1;
+                l0.s0.f1.f2 = r.s0.f1.f2;
+                l0.s0.f1.f3 = r.s0.f1.f3;
+                l0.s0.f1.f4 = r.s0.f1.f4;
+                l0.s0.f1.f5 = r.s0.f1.f5;
+                l0.s1.tag = r.s1.tag;
+            }
             return l0;
             break;
         }
     }
-    l11.f0 = l17.f0;
-    l11.f1.f0 = l17.f1.f0;
-    l11.f1.f1 = l17.f1.f1;
-    l11.f1.f2 = l17.f1.f2;
-    l11.f1.f3 = l17.f1.f3;
-    l11.f1.f4 = l17.f1.f4;
-    l7 = l11.f0;
-    l8.f0 = l11.f1.f0;
-    l8.f1 = l11.f1.f1;
-    l8.f2 = l11.f1.f2;
-    l8.f3 = l11.f1.f3;
-    l8.f4 = l11.f1.f4;
     l18 = (uint8_t *)&(*(uint16_t *)l4.p);
     l19.p = l18;
     l19.n = l4.n;
-    l0 = read_program__end(l1, l19, l5, l6, l8, l7);
+    {
+        struct core__result__Result__rt_tuple2_u64_Summary_Refusal r = read_program__end(l1, l19, l5, l6, l12.s0.f1, l12.s0.f0);
+        l0.tag = r.tag;
+        l0.s0.f0 = r.s0.f0;
+        l0.s0.f1.f0 = r.s0.f1.f0;
+        l0.s0.f1.f1 = r.s0.f1.f1;
+        l0.s0.f1.f2 = r.s0.f1.f2;
+        l0.s0.f1.f3 = r.s0.f1.f3;
+        l0.s0.f1.f4 = r.s0.f1.f4;
+        l0.s0.f1.f5 = r.s0.f1.f5;
+        l0.s1.tag = r.s1.tag;
+    }
     return l0;
 }
 
@@ -16284,7 +15513,6 @@ static RT_HERE struct read_program__totals__Totals read_program__totals__none(vo
 static inline uint8_t read_program__totals__noted(rt_slice l1, uint8_t l2, uint8_t l3, struct read_program__totals__Totals l4, struct judge__Done l5)
 {
     uint8_t l0;
-    uint64_t l6;
     uint8_t l7;
     struct directory__Row l8;
     uint8_t *l9;
@@ -16295,11 +15523,10 @@ static inline uint8_t read_program__totals__noted(rt_slice l1, uint8_t l2, uint8
     uint16_t l14;
     uint8_t *l16;
     rt_slice l17;
-    l6 = l4.f0;
     l9 = (uint8_t *)&(*(uint16_t *)l1.p);
     l10.p = l9;
     l10.n = l1.n;
-    l7 = read_program__totals__listed(l10, l6, l2, l3);
+    l7 = read_program__totals__listed(l10, l4.f0, l2, l3);
     l11 = core__convert__U16FromU8__from(l2);
     l12 = core__convert__U16FromU8__from(l3);
     l13 = (uint16_t)l4.f1;
@@ -16311,7 +15538,7 @@ static inline uint8_t read_program__totals__noted(rt_slice l1, uint8_t l2, uint8
     l16 = (uint8_t *)&(*(uint16_t *)l1.p);
     l17.p = l16;
     l17.n = l1.n;
-    directory__rows__put_row(l17, l6, l8);
+    directory__rows__put_row(l17, l4.f0, l8);
     l0 = (uint8_t)!l7;
     return l0;
 }
@@ -16319,61 +15546,50 @@ static inline uint8_t read_program__totals__noted(rt_slice l1, uint8_t l2, uint8
 static RT_HERE struct core__result__Result__rt_tuple2_u64_Totals_Refusal read_program__totals__of_struct(rt_slice l1, rt_slice l2, rt_slice l3, rt_slice l4, uint8_t l5, struct read_program__totals__Totals l6, uint64_t l7)
 {
     struct core__result__Result__rt_tuple2_u64_Totals_Refusal l0;
-    uint8_t l8;
-    uint64_t l9;
-    struct rt_tuple2__u8_u64 l10;
-    struct core__result__ErrResidual__Refusal l11;
     struct read_program__totals__Totals l12;
     uint64_t l13;
     uint8_t l14;
-    uint64_t l15;
-    struct read_program__totals__Totals l16;
-    struct rt_tuple2__u64_Totals l17;
-    struct core__result__ErrResidual__Refusal l18;
-    struct rt_tuple2__u8_u64 l19;
     struct core__ops__ControlFlow__ErrResidual_Refusal_rt_tuple2_u8_u64 l20;
     struct core__result__Result__rt_tuple2_u8_u64_Refusal l21;
     uint64_t l22;
-    struct rt_tuple2__u8_u64 l23;
     uint8_t l24;
-    struct rt_tuple2__u64_Totals l25;
     struct core__ops__ControlFlow__ErrResidual_Refusal_rt_tuple2__da2d7d9c l26;
     struct core__result__Result__rt_tuple2_u64_Totals_Refusal l27;
     uint8_t *l28;
     rt_slice l29;
-    struct rt_tuple2__u64_Totals l30;
     struct rt_tuple2__u64_Totals l31;
     l22 = (uint64_t)((uint64_t)UINT64_C(8) + (uint64_t)UINT64_C(1));
     l21 = read_exprs__read__ranged(l1, UINT64_C(0), l22, l7);
     l20 = core__result__ResultTry__branch__rt_tuple2_u8_u64_Refusal(l21);
     switch (l20.tag) {
         case UINT8_C(0): {
-            l10.f0 = l20.s0.f0;
-            l10.f1 = l20.s0.f1;
-            l23.f0 = l10.f0;
-            l23.f1 = l10.f1;
             break;
         }
         case UINT8_C(1): default: {
-            l11.f0 = l20.s1.f0;
-            l0 = core__result__ResultFromResidualErrResidual__from_resi_e2c23d53(l11);
+            {
+                struct core__result__Result__rt_tuple2_u64_Totals_Refusal r = core__result__ResultFromResidualErrResidual__from_resi_e2c23d53(l20.s1);
+                l0.tag = r.tag;
+                l0.s0.f0 = r.s0.f0;
+                l0.s0.f1.f0 = r.s0.f1.f0;
+                l0.s0.f1.f1 = r.s0.f1.f1;
+                l0.s0.f1.f2 = r.s0.f1.f2;
+                l0.s0.f1.f3 = r.s0.f1.f3;
+                l0.s0.f1.f4 = r.s0.f1.f4;
+                l0.s1.tag = r.s1.tag;
+            }
             return l0;
             break;
         }
     }
-    l19.f0 = l23.f0;
-    l19.f1 = l23.f1;
-    l8 = l19.f0;
-    l9 = l19.f1;
     l12.f0 = l6.f0;
     l12.f1 = l6.f1;
     l12.f2 = l6.f2;
     l12.f3 = l6.f3;
     l12.f4 = l6.f4;
-    l13 = l9;
+    l13 = l20.s0.f1;
     l14 = UINT8_C(0);
     for (;;) {
-        l24 = (uint8_t)(l14 < l8);
+        l24 = (uint8_t)(l14 < l20.s0.f0);
         if (l24) {
         } else {
             goto end1;
@@ -16385,52 +15601,46 @@ static RT_HERE struct core__result__Result__rt_tuple2_u64_Totals_Refusal read_pr
         l26 = core__result__ResultTry__branch__rt_tuple2_u64_Totals_Refusal(l27);
         switch (l26.tag) {
             case UINT8_C(0): {
-                l17.f0 = l26.s0.f0;
-                l17.f1.f0 = l26.s0.f1.f0;
-                l17.f1.f1 = l26.s0.f1.f1;
-                l17.f1.f2 = l26.s0.f1.f2;
-                l17.f1.f3 = l26.s0.f1.f3;
-                l17.f1.f4 = l26.s0.f1.f4;
-                l30.f0 = l17.f0;
-                l30.f1.f0 = l17.f1.f0;
-                l30.f1.f1 = l17.f1.f1;
-                l30.f1.f2 = l17.f1.f2;
-                l30.f1.f3 = l17.f1.f3;
-                l30.f1.f4 = l17.f1.f4;
                 break;
             }
             case UINT8_C(1): default: {
-                l18.f0 = l26.s1.f0;
-                l0 = core__result__ResultFromResidualErrResidual__from_resi_e2c23d53(l18);
+                {
+                    struct core__result__Result__rt_tuple2_u64_Totals_Refusal r = core__result__ResultFromResidualErrResidual__from_resi_e2c23d53(l26.s1);
+                    l0.tag = r.tag;
+                    l0.s0.f0 = r.s0.f0;
+                    l0.s0.f1.f0 = r.s0.f1.f0;
+                    l0.s0.f1.f1 = r.s0.f1.f1;
+                    l0.s0.f1.f2 = r.s0.f1.f2;
+                    l0.s0.f1.f3 = r.s0.f1.f3;
+                    l0.s0.f1.f4 = r.s0.f1.f4;
+                    l0.s1.tag = r.s1.tag;
+                }
                 return l0;
                 break;
             }
         }
-        l25.f0 = l30.f0;
-        l25.f1.f0 = l30.f1.f0;
-        l25.f1.f1 = l30.f1.f1;
-        l25.f1.f2 = l30.f1.f2;
-        l25.f1.f3 = l30.f1.f3;
-        l25.f1.f4 = l30.f1.f4;
-        l15 = l25.f0;
-        l16.f0 = l25.f1.f0;
-        l16.f1 = l25.f1.f1;
-        l16.f2 = l25.f1.f2;
-        l16.f3 = l25.f1.f3;
-        l16.f4 = l25.f1.f4;
-        l12.f0 = l16.f0;
-        l12.f1 = l16.f1;
-        l12.f2 = l16.f2;
-        l12.f3 = l16.f3;
-        l12.f4 = l16.f4;
-        l13 = l15;
+        l12.f0 = l26.s0.f1.f0;
+        l12.f1 = l26.s0.f1.f1;
+        l12.f2 = l26.s0.f1.f2;
+        l12.f3 = l26.s0.f1.f3;
+        l12.f4 = l26.s0.f1.f4;
+        l13 = l26.s0.f0;
         l14 = (uint8_t)((uint32_t)l14 + (uint32_t)UINT8_C(1));
     }
 end1:;
     l31.f0 = l13;
-    l31.f1 = l12;
+    l31.f1.f0 = l12.f0;
+    l31.f1.f1 = l12.f1;
+    l31.f1.f2 = l12.f2;
+    l31.f1.f3 = l12.f3;
+    l31.f1.f4 = l12.f4;
     l0.tag = UINT8_C(0);
-    l0.s0 = l31;
+    l0.s0.f0 = l31.f0;
+    l0.s0.f1.f0 = l31.f1.f0;
+    l0.s0.f1.f1 = l31.f1.f1;
+    l0.s0.f1.f2 = l31.f1.f2;
+    l0.s0.f1.f3 = l31.f1.f3;
+    l0.s0.f1.f4 = l31.f1.f4;
     return l0;
 }
 
@@ -16485,26 +15695,14 @@ static RT_HERE struct read_program__totals__Totals read_program__totals__plus(st
 static RT_HERE struct core__result__Result__rt_tuple2_u64_Totals_Refusal read_program__totals__step(rt_slice l1, rt_slice l2, rt_slice l3, rt_slice l4, uint8_t l5, struct read_program__totals__Totals l6, uint64_t l7)
 {
     struct core__result__Result__rt_tuple2_u64_Totals_Refusal l0;
-    uint8_t l8;
-    uint64_t l9;
-    struct rt_tuple2__u8_u64 l10;
-    struct core__result__ErrResidual__Refusal l11;
     struct judge__Scope l12;
     struct read_exprs__read__Names l13;
-    uint64_t l14;
-    struct judge__Done l15;
-    struct rt_tuple2__u64_Done l16;
-    struct core__result__ErrResidual__Refusal l17;
     uint8_t l18;
-    struct rt_tuple2__u8_u64 l19;
     struct core__ops__ControlFlow__ErrResidual_Refusal_rt_tuple2_u8_u64 l20;
     struct core__result__Result__rt_tuple2_u8_u64_Refusal l21;
-    struct rt_tuple2__u8_u64 l22;
-    struct rt_tuple2__u64_Done l23;
     struct core__ops__ControlFlow__ErrResidual_Refusal_rt_tuple2_u64_Done l24;
     struct core__result__Result__rt_tuple2_u64_Done_Refusal l25;
     uint8_t *l26;
-    struct rt_tuple2__u64_Done l27;
     uint8_t *l28;
     rt_slice l29;
     struct read_program__totals__Totals l30;
@@ -16513,79 +15711,70 @@ static RT_HERE struct core__result__Result__rt_tuple2_u64_Totals_Refusal read_pr
     l20 = core__result__ResultTry__branch__rt_tuple2_u8_u64_Refusal(l21);
     switch (l20.tag) {
         case UINT8_C(0): {
-            l10.f0 = l20.s0.f0;
-            l10.f1 = l20.s0.f1;
-            l22.f0 = l10.f0;
-            l22.f1 = l10.f1;
             break;
         }
         case UINT8_C(1): default: {
-            l11.f0 = l20.s1.f0;
-            l0 = core__result__ResultFromResidualErrResidual__from_resi_e2c23d53(l11);
+            {
+                struct core__result__Result__rt_tuple2_u64_Totals_Refusal r = core__result__ResultFromResidualErrResidual__from_resi_e2c23d53(l20.s1);
+                l0.tag = r.tag;
+                l0.s0.f0 = r.s0.f0;
+                l0.s0.f1.f0 = r.s0.f1.f0;
+                l0.s0.f1.f1 = r.s0.f1.f1;
+                l0.s0.f1.f2 = r.s0.f1.f2;
+                l0.s0.f1.f3 = r.s0.f1.f3;
+                l0.s0.f1.f4 = r.s0.f1.f4;
+                l0.s1.tag = r.s1.tag;
+            }
             return l0;
             break;
         }
     }
-    l19.f0 = l22.f0;
-    l19.f1 = l22.f1;
-    l8 = l19.f0;
-    l9 = l19.f1;
     l12.f0 = UINT64_C(0);
     l12.f1 = UINT64_C(0);
     l13.f0 = l2;
     l13.f1 = l3;
     l13.f2 = l5;
     l26 = (uint8_t *)&l13;
-    l25 = read_stmts__stmt__body(l1, l26, l12, l9, UINT64_C(8));
+    l25 = read_stmts__stmt__body(l1, l26, l12, l20.s0.f1, UINT64_C(8));
     l24 = core__result__ResultTry__branch__rt_tuple2_u64_Done_Refusal(l25);
     switch (l24.tag) {
         case UINT8_C(0): {
-            l16.f0 = l24.s0.f0;
-            l16.f1.f0 = l24.s0.f1.f0;
-            l16.f1.f1 = l24.s0.f1.f1;
-            l16.f1.f2 = l24.s0.f1.f2;
-            l16.f1.f3 = l24.s0.f1.f3;
-            l16.f1.f4.f0 = l24.s0.f1.f4.f0;
-            l16.f1.f4.f1 = l24.s0.f1.f4.f1;
-            l27.f0 = l16.f0;
-            l27.f1.f0 = l16.f1.f0;
-            l27.f1.f1 = l16.f1.f1;
-            l27.f1.f2 = l16.f1.f2;
-            l27.f1.f3 = l16.f1.f3;
-            l27.f1.f4.f0 = l16.f1.f4.f0;
-            l27.f1.f4.f1 = l16.f1.f4.f1;
             break;
         }
         case UINT8_C(1): default: {
-            l17.f0 = l24.s1.f0;
-            l0 = core__result__ResultFromResidualErrResidual__from_resi_e2c23d53(l17);
+            {
+                struct core__result__Result__rt_tuple2_u64_Totals_Refusal r = core__result__ResultFromResidualErrResidual__from_resi_e2c23d53(l24.s1);
+                l0.tag = r.tag;
+                l0.s0.f0 = r.s0.f0;
+                l0.s0.f1.f0 = r.s0.f1.f0;
+                l0.s0.f1.f1 = r.s0.f1.f1;
+                l0.s0.f1.f2 = r.s0.f1.f2;
+                l0.s0.f1.f3 = r.s0.f1.f3;
+                l0.s0.f1.f4 = r.s0.f1.f4;
+                l0.s1.tag = r.s1.tag;
+            }
             return l0;
             break;
         }
     }
-    l23.f0 = l27.f0;
-    l23.f1.f0 = l27.f1.f0;
-    l23.f1.f1 = l27.f1.f1;
-    l23.f1.f2 = l27.f1.f2;
-    l23.f1.f3 = l27.f1.f3;
-    l23.f1.f4.f0 = l27.f1.f4.f0;
-    l23.f1.f4.f1 = l27.f1.f4.f1;
-    l14 = l23.f0;
-    l15.f0 = l23.f1.f0;
-    l15.f1 = l23.f1.f1;
-    l15.f2 = l23.f1.f2;
-    l15.f3 = l23.f1.f3;
-    l15.f4.f0 = l23.f1.f4.f0;
-    l15.f4.f1 = l23.f1.f4.f1;
     l28 = (uint8_t *)&(*(uint16_t *)l4.p);
     l29.p = l28;
     l29.n = l4.n;
-    l18 = read_program__totals__noted(l29, l5, l8, l6, l15);
-    l30 = read_program__totals__plus(l6, l15, l18);
-    l31.f0 = l14;
-    l31.f1 = l30;
+    l18 = read_program__totals__noted(l29, l5, l20.s0.f0, l6, l24.s0.f1);
+    l30 = read_program__totals__plus(l6, l24.s0.f1, l18);
+    l31.f0 = l24.s0.f0;
+    l31.f1.f0 = l30.f0;
+    l31.f1.f1 = l30.f1;
+    l31.f1.f2 = l30.f2;
+    l31.f1.f3 = l30.f3;
+    l31.f1.f4 = l30.f4;
     l0.tag = UINT8_C(0);
-    l0.s0 = l31;
+    l0.s0.f0 = l31.f0;
+    l0.s0.f1.f0 = l31.f1.f0;
+    l0.s0.f1.f1 = l31.f1.f1;
+    l0.s0.f1.f2 = l31.f1.f2;
+    l0.s0.f1.f3 = l31.f1.f3;
+    l0.s0.f1.f4 = l31.f1.f4;
     return l0;
 }
 
@@ -16595,17 +15784,11 @@ static RT_HERE struct core__result__Result__rt_tuple2_u64_Totals_Refusal read_pr
     struct read_program__totals__Totals l8;
     uint64_t l9;
     uint8_t l10;
-    uint64_t l11;
-    struct read_program__totals__Totals l12;
-    struct rt_tuple2__u64_Totals l13;
-    struct core__result__ErrResidual__Refusal l14;
     uint8_t l15;
-    struct rt_tuple2__u64_Totals l16;
     struct core__ops__ControlFlow__ErrResidual_Refusal_rt_tuple2__da2d7d9c l17;
     struct core__result__Result__rt_tuple2_u64_Totals_Refusal l18;
     uint8_t *l19;
     rt_slice l20;
-    struct rt_tuple2__u64_Totals l21;
     struct rt_tuple2__u64_Totals l22;
     l8.f0 = l6.f0;
     l8.f1 = l6.f1;
@@ -16627,66 +15810,54 @@ static RT_HERE struct core__result__Result__rt_tuple2_u64_Totals_Refusal read_pr
         l17 = core__result__ResultTry__branch__rt_tuple2_u64_Totals_Refusal(l18);
         switch (l17.tag) {
             case UINT8_C(0): {
-                l13.f0 = l17.s0.f0;
-                l13.f1.f0 = l17.s0.f1.f0;
-                l13.f1.f1 = l17.s0.f1.f1;
-                l13.f1.f2 = l17.s0.f1.f2;
-                l13.f1.f3 = l17.s0.f1.f3;
-                l13.f1.f4 = l17.s0.f1.f4;
-                l21.f0 = l13.f0;
-                l21.f1.f0 = l13.f1.f0;
-                l21.f1.f1 = l13.f1.f1;
-                l21.f1.f2 = l13.f1.f2;
-                l21.f1.f3 = l13.f1.f3;
-                l21.f1.f4 = l13.f1.f4;
                 break;
             }
             case UINT8_C(1): default: {
-                l14.f0 = l17.s1.f0;
-                l0 = core__result__ResultFromResidualErrResidual__from_resi_e2c23d53(l14);
+                {
+                    struct core__result__Result__rt_tuple2_u64_Totals_Refusal r = core__result__ResultFromResidualErrResidual__from_resi_e2c23d53(l17.s1);
+                    l0.tag = r.tag;
+                    l0.s0.f0 = r.s0.f0;
+                    l0.s0.f1.f0 = r.s0.f1.f0;
+                    l0.s0.f1.f1 = r.s0.f1.f1;
+                    l0.s0.f1.f2 = r.s0.f1.f2;
+                    l0.s0.f1.f3 = r.s0.f1.f3;
+                    l0.s0.f1.f4 = r.s0.f1.f4;
+                    l0.s1.tag = r.s1.tag;
+                }
                 return l0;
                 break;
             }
         }
-        l16.f0 = l21.f0;
-        l16.f1.f0 = l21.f1.f0;
-        l16.f1.f1 = l21.f1.f1;
-        l16.f1.f2 = l21.f1.f2;
-        l16.f1.f3 = l21.f1.f3;
-        l16.f1.f4 = l21.f1.f4;
-        l11 = l16.f0;
-        l12.f0 = l16.f1.f0;
-        l12.f1 = l16.f1.f1;
-        l12.f2 = l16.f1.f2;
-        l12.f3 = l16.f1.f3;
-        l12.f4 = l16.f1.f4;
-        l8.f0 = l12.f0;
-        l8.f1 = l12.f1;
-        l8.f2 = l12.f2;
-        l8.f3 = l12.f3;
-        l8.f4 = l12.f4;
-        l9 = l11;
+        l8.f0 = l17.s0.f1.f0;
+        l8.f1 = l17.s0.f1.f1;
+        l8.f2 = l17.s0.f1.f2;
+        l8.f3 = l17.s0.f1.f3;
+        l8.f4 = l17.s0.f1.f4;
+        l9 = l17.s0.f0;
         l10 = (uint8_t)((uint32_t)l10 + (uint32_t)UINT8_C(1));
     }
 end1:;
     l22.f0 = l9;
-    l22.f1 = l8;
+    l22.f1.f0 = l8.f0;
+    l22.f1.f1 = l8.f1;
+    l22.f1.f2 = l8.f2;
+    l22.f1.f3 = l8.f3;
+    l22.f1.f4 = l8.f4;
     l0.tag = UINT8_C(0);
-    l0.s0 = l22;
+    l0.s0.f0 = l22.f0;
+    l0.s0.f1.f0 = l22.f1.f0;
+    l0.s0.f1.f1 = l22.f1.f1;
+    l0.s0.f1.f2 = l22.f1.f2;
+    l0.s0.f1.f3 = l22.f1.f3;
+    l0.s0.f1.f4 = l22.f1.f4;
     return l0;
 }
 
 static inline struct core__result__Result__rt_tuple2_u64_Planned_Refusal read_schedule__call(rt_slice l1, uint8_t *l2, uint64_t l3)
 {
     struct core__result__Result__rt_tuple2_u64_Planned_Refusal l0;
-    uint8_t l4;
-    uint64_t l5;
-    struct rt_tuple2__u8_u64 l6;
-    struct core__result__ErrResidual__Refusal l7;
-    struct rt_tuple2__u8_u64 l8;
     struct core__ops__ControlFlow__ErrResidual_Refusal_rt_tuple2_u8_u64 l9;
     struct core__result__Result__rt_tuple2_u8_u64_Refusal l10;
-    struct rt_tuple2__u8_u64 l11;
     struct read_schedule__Planned l12;
     uint8_t l13;
     struct rt_tuple2__u64_Planned l14;
@@ -16694,52 +15865,41 @@ static inline struct core__result__Result__rt_tuple2_u64_Planned_Refusal read_sc
     l9 = core__result__ResultTry__branch__rt_tuple2_u8_u64_Refusal(l10);
     switch (l9.tag) {
         case UINT8_C(0): {
-            l6.f0 = l9.s0.f0;
-            l6.f1 = l9.s0.f1;
-            l11.f0 = l6.f0;
-            l11.f1 = l6.f1;
             break;
         }
         case UINT8_C(1): default: {
-            l7.f0 = l9.s1.f0;
-            l0 = core__result__ResultFromResidualErrResidual__from_resi_e75b3344(l7);
+            {
+                struct core__result__Result__rt_tuple2_u64_Planned_Refusal r = core__result__ResultFromResidualErrResidual__from_resi_e75b3344(l9.s1);
+                l0.tag = r.tag;
+                l0.s0.f0 = r.s0.f0;
+                l0.s0.f1.f0 = r.s0.f1.f0;
+                l0.s0.f1.f1 = r.s0.f1.f1;
+                l0.s1.tag = r.s1.tag;
+            }
             return l0;
             break;
         }
     }
-    l8.f0 = l11.f0;
-    l8.f1 = l11.f1;
-    l4 = l8.f0;
-    l5 = l8.f1;
-    l13 = read_schedule__had(l2, l4);
+    l13 = read_schedule__had(l2, l9.s0.f0);
     l12 = read_schedule__one(l13);
-    l14.f0 = l5;
-    l14.f1 = l12;
+    l14.f0 = l9.s0.f1;
+    l14.f1.f0 = l12.f0;
+    l14.f1.f1 = l12.f1;
     l0.tag = UINT8_C(0);
-    l0.s0 = l14;
+    l0.s0.f0 = l14.f0;
+    l0.s0.f1.f0 = l14.f1.f0;
+    l0.s0.f1.f1 = l14.f1.f1;
     return l0;
 }
 
 static inline struct core__result__Result__rt_tuple2_u64_Planned_Refusal read_schedule__call_in(rt_slice l1, uint8_t *l2, uint64_t l3)
 {
     struct core__result__Result__rt_tuple2_u64_Planned_Refusal l0;
-    uint8_t l4;
-    uint64_t l5;
-    struct rt_tuple2__u8_u64 l6;
-    struct core__result__ErrResidual__Refusal l7;
-    uint8_t l8;
-    uint64_t l9;
-    struct rt_tuple2__u8_u64 l10;
-    struct core__result__ErrResidual__Refusal l11;
-    struct rt_tuple2__u8_u64 l12;
     struct core__ops__ControlFlow__ErrResidual_Refusal_rt_tuple2_u8_u64 l13;
     struct core__result__Result__rt_tuple2_u8_u64_Refusal l14;
     uint64_t l15;
     uint8_t l16;
-    struct rt_tuple2__u8_u64 l17;
-    struct rt_tuple2__u8_u64 l18;
     struct core__ops__ControlFlow__ErrResidual_Refusal_rt_tuple2_u8_u64 l19;
-    struct rt_tuple2__u8_u64 l20;
     struct read_schedule__Planned l21;
     uint8_t l22;
     rt_slice l23;
@@ -16750,52 +15910,51 @@ static inline struct core__result__Result__rt_tuple2_u64_Planned_Refusal read_sc
     l13 = core__result__ResultTry__branch__rt_tuple2_u8_u64_Refusal(l14);
     switch (l13.tag) {
         case UINT8_C(0): {
-            l6.f0 = l13.s0.f0;
-            l6.f1 = l13.s0.f1;
-            l17.f0 = l6.f0;
-            l17.f1 = l6.f1;
             break;
         }
         case UINT8_C(1): default: {
-            l7.f0 = l13.s1.f0;
-            l0 = core__result__ResultFromResidualErrResidual__from_resi_e75b3344(l7);
+            {
+                struct core__result__Result__rt_tuple2_u64_Planned_Refusal r = core__result__ResultFromResidualErrResidual__from_resi_e75b3344(l13.s1);
+                l0.tag = r.tag;
+                l0.s0.f0 = r.s0.f0;
+                l0.s0.f1.f0 = r.s0.f1.f0;
+                l0.s0.f1.f1 = r.s0.f1.f1;
+                l0.s1.tag = r.s1.tag;
+            }
             return l0;
             break;
         }
     }
-    l12.f0 = l17.f0;
-    l12.f1 = l17.f1;
-    l4 = l12.f0;
-    l5 = l12.f1;
-    l14 = read_exprs__read__ranged(l1, UINT64_C(0), UINT64_C(32), l5);
+    l14 = read_exprs__read__ranged(l1, UINT64_C(0), UINT64_C(32), l13.s0.f1);
     l19 = core__result__ResultTry__branch__rt_tuple2_u8_u64_Refusal(l14);
     switch (l19.tag) {
         case UINT8_C(0): {
-            l10.f0 = l19.s0.f0;
-            l10.f1 = l19.s0.f1;
-            l20.f0 = l10.f0;
-            l20.f1 = l10.f1;
             break;
         }
         case UINT8_C(1): default: {
-            l11.f0 = l19.s1.f0;
-            l0 = core__result__ResultFromResidualErrResidual__from_resi_e75b3344(l11);
+            {
+                struct core__result__Result__rt_tuple2_u64_Planned_Refusal r = core__result__ResultFromResidualErrResidual__from_resi_e75b3344(l19.s1);
+                l0.tag = r.tag;
+                l0.s0.f0 = r.s0.f0;
+                l0.s0.f1.f0 = r.s0.f1.f0;
+                l0.s0.f1.f1 = r.s0.f1.f1;
+                l0.s1.tag = r.s1.tag;
+            }
             return l0;
             break;
         }
     }
-    l18.f0 = l20.f0;
-    l18.f1 = l20.f1;
-    l8 = l18.f0;
-    l9 = l18.f1;
     l23 = (*(struct read_schedule__Steps *)l2).f0;
     l16 = (*(struct read_schedule__Steps *)l2).f1;
-    l22 = directory__rows__there(l23, l16, l4, l8);
+    l22 = directory__rows__there(l23, l16, l13.s0.f0, l19.s0.f0);
     l21 = read_schedule__one(l22);
-    l24.f0 = l9;
-    l24.f1 = l21;
+    l24.f0 = l19.s0.f1;
+    l24.f1.f0 = l21.f0;
+    l24.f1.f1 = l21.f1;
     l0.tag = UINT8_C(0);
-    l0.s0 = l24;
+    l0.s0.f0 = l24.f0;
+    l0.s0.f1.f0 = l24.f1.f0;
+    l0.s0.f1.f1 = l24.f1.f1;
     return l0;
 }
 
@@ -16833,12 +15992,7 @@ end1:;
 static inline struct core__result__Result__rt_tuple2_u64_Planned_Refusal read_schedule__item(rt_slice l1, uint8_t *l2, uint64_t l3, uint64_t l4)
 {
     struct core__result__Result__rt_tuple2_u64_Planned_Refusal l0;
-    uint8_t l5;
     uint64_t l6;
-    uint64_t l7;
-    struct read_schedule__Planned l8;
-    struct rt_tuple2__u64_Planned l9;
-    struct core__result__ErrResidual__Refusal l10;
     uint64_t l11;
     uint8_t l12;
     struct types__refusal__Refusal l13;
@@ -16847,10 +16001,8 @@ static inline struct core__result__Result__rt_tuple2_u64_Planned_Refusal read_sc
     uint8_t l16;
     uint8_t l17;
     struct types__refusal__Refusal l18;
-    struct rt_tuple2__u64_Planned l19;
     struct core__ops__ControlFlow__ErrResidual_Refusal_rt_tuple2__d7d566f0 l20;
     struct core__result__Result__rt_tuple2_u64_Planned_Refusal l21;
-    struct rt_tuple2__u64_Planned l22;
     struct read_schedule__Planned l23;
     struct rt_tuple2__u64_Planned l24;
     l11 = l1.n;
@@ -16863,19 +16015,32 @@ static inline struct core__result__Result__rt_tuple2_u64_Planned_Refusal read_sc
     }
     l14 = l1.p + (size_t)l3;
     l15 = (*(uint8_t *)l14);
-    l5 = l15;
     l6 = (uint64_t)((uint64_t)l3 + (uint64_t)UINT64_C(1));
-    l12 = (uint8_t)(l5 == UINT8_C(1));
+    l12 = (uint8_t)(l15 == UINT8_C(1));
     if (l12) {
-        l0 = read_schedule__call(l1, l2, l6);
+        {
+            struct core__result__Result__rt_tuple2_u64_Planned_Refusal r = read_schedule__call(l1, l2, l6);
+            l0.tag = r.tag;
+            l0.s0.f0 = r.s0.f0;
+            l0.s0.f1.f0 = r.s0.f1.f0;
+            l0.s0.f1.f1 = r.s0.f1.f1;
+            l0.s1.tag = r.s1.tag;
+        }
         return l0;
     }
-    l12 = (uint8_t)(l5 == UINT8_C(2));
+    l12 = (uint8_t)(l15 == UINT8_C(2));
     if (l12) {
-        l0 = read_schedule__call_in(l1, l2, l6);
+        {
+            struct core__result__Result__rt_tuple2_u64_Planned_Refusal r = read_schedule__call_in(l1, l2, l6);
+            l0.tag = r.tag;
+            l0.s0.f0 = r.s0.f0;
+            l0.s0.f1.f0 = r.s0.f1.f0;
+            l0.s0.f1.f1 = r.s0.f1.f1;
+            l0.s1.tag = r.s1.tag;
+        }
         return l0;
     }
-    l16 = (uint8_t)(l5 != UINT8_C(3));
+    l16 = (uint8_t)(l15 != UINT8_C(3));
     if (l16) {
     } else {
         l16 = (uint8_t)(l4 == UINT64_C(0));
@@ -16897,90 +16062,73 @@ end1:;
     l20 = core__result__ResultTry__branch__rt_tuple2_u64_Planned_Refusal(l21);
     switch (l20.tag) {
         case UINT8_C(0): {
-            l9.f0 = l20.s0.f0;
-            l9.f1.f0 = l20.s0.f1.f0;
-            l9.f1.f1 = l20.s0.f1.f1;
-            l22.f0 = l9.f0;
-            l22.f1.f0 = l9.f1.f0;
-            l22.f1.f1 = l9.f1.f1;
             break;
         }
         case UINT8_C(1): default: {
-            l10.f0 = l20.s1.f0;
-            l0 = core__result__ResultFromResidualErrResidual__from_resi_e75b3344(l10);
+            {
+                struct core__result__Result__rt_tuple2_u64_Planned_Refusal r = core__result__ResultFromResidualErrResidual__from_resi_e75b3344(l20.s1);
+                l0.tag = r.tag;
+                l0.s0.f0 = r.s0.f0;
+                l0.s0.f1.f0 = r.s0.f1.f0;
+                l0.s0.f1.f1 = r.s0.f1.f1;
+                l0.s1.tag = r.s1.tag;
+            }
             return l0;
             break;
         }
     }
-    l19.f0 = l22.f0;
-    l19.f1.f0 = l22.f1.f0;
-    l19.f1.f1 = l22.f1.f1;
-    l7 = l19.f0;
-    l8.f0 = l19.f1.f0;
-    l8.f1 = l19.f1.f1;
-    l11 = (uint64_t)((uint64_t)l8.f0 + (uint64_t)UINT64_C(1));
+    l11 = (uint64_t)((uint64_t)l20.s0.f1.f0 + (uint64_t)UINT64_C(1));
     l23.f0 = l11;
-    l23.f1 = l8.f1;
-    l24.f0 = l7;
-    l24.f1 = l23;
+    l23.f1 = l20.s0.f1.f1;
+    l24.f0 = l20.s0.f0;
+    l24.f1.f0 = l23.f0;
+    l24.f1.f1 = l23.f1;
     l0.tag = UINT8_C(0);
-    l0.s0 = l24;
+    l0.s0.f0 = l24.f0;
+    l0.s0.f1.f0 = l24.f1.f0;
+    l0.s0.f1.f1 = l24.f1.f1;
     return l0;
 }
 
 static inline struct core__result__Result__rt_tuple2_u64_Planned_Refusal read_schedule__items(rt_slice l1, uint8_t *l2, uint64_t l3, uint64_t l4)
 {
     struct core__result__Result__rt_tuple2_u64_Planned_Refusal l0;
-    uint8_t l5;
-    uint64_t l6;
-    struct rt_tuple2__u8_u64 l7;
-    struct core__result__ErrResidual__Refusal l8;
     struct read_schedule__Planned l9;
     uint64_t l10;
     uint8_t l11;
-    uint64_t l12;
-    struct read_schedule__Planned l13;
-    struct rt_tuple2__u64_Planned l14;
-    struct core__result__ErrResidual__Refusal l15;
-    struct rt_tuple2__u8_u64 l16;
     struct core__ops__ControlFlow__ErrResidual_Refusal_rt_tuple2_u8_u64 l17;
     struct core__result__Result__rt_tuple2_u8_u64_Refusal l18;
     uint64_t l19;
-    struct rt_tuple2__u8_u64 l20;
     uint8_t l21;
-    struct rt_tuple2__u64_Planned l22;
     struct core__ops__ControlFlow__ErrResidual_Refusal_rt_tuple2__d7d566f0 l23;
     struct core__result__Result__rt_tuple2_u64_Planned_Refusal l24;
-    struct rt_tuple2__u64_Planned l25;
     struct rt_tuple2__u64_Planned l26;
     l19 = (uint64_t)((uint64_t)UINT64_C(32) + (uint64_t)UINT64_C(1));
     l18 = read_exprs__read__ranged(l1, UINT64_C(1), l19, l3);
     l17 = core__result__ResultTry__branch__rt_tuple2_u8_u64_Refusal(l18);
     switch (l17.tag) {
         case UINT8_C(0): {
-            l7.f0 = l17.s0.f0;
-            l7.f1 = l17.s0.f1;
-            l20.f0 = l7.f0;
-            l20.f1 = l7.f1;
             break;
         }
         case UINT8_C(1): default: {
-            l8.f0 = l17.s1.f0;
-            l0 = core__result__ResultFromResidualErrResidual__from_resi_e75b3344(l8);
+            {
+                struct core__result__Result__rt_tuple2_u64_Planned_Refusal r = core__result__ResultFromResidualErrResidual__from_resi_e75b3344(l17.s1);
+                l0.tag = r.tag;
+                l0.s0.f0 = r.s0.f0;
+                l0.s0.f1.f0 = r.s0.f1.f0;
+                l0.s0.f1.f1 = r.s0.f1.f1;
+                l0.s1.tag = r.s1.tag;
+            }
             return l0;
             break;
         }
     }
-    l16.f0 = l20.f0;
-    l16.f1 = l20.f1;
-    l5 = l16.f0;
-    l6 = l16.f1;
     l9.f0 = UINT64_C(0);
     l9.f1 = UINT8_C(0);
-    l10 = l6;
+    l10 = l17.s0.f1;
     l11 = UINT8_C(0);
     for (;;) {
-        l21 = (uint8_t)(l11 < l5);
+        l21 = (uint8_t)(l11 < l17.s0.f0);
         if (l21) {
         } else {
             goto end1;
@@ -16989,36 +16137,33 @@ static inline struct core__result__Result__rt_tuple2_u64_Planned_Refusal read_sc
         l23 = core__result__ResultTry__branch__rt_tuple2_u64_Planned_Refusal(l24);
         switch (l23.tag) {
             case UINT8_C(0): {
-                l14.f0 = l23.s0.f0;
-                l14.f1.f0 = l23.s0.f1.f0;
-                l14.f1.f1 = l23.s0.f1.f1;
-                l25.f0 = l14.f0;
-                l25.f1.f0 = l14.f1.f0;
-                l25.f1.f1 = l14.f1.f1;
                 break;
             }
             case UINT8_C(1): default: {
-                l15.f0 = l23.s1.f0;
-                l0 = core__result__ResultFromResidualErrResidual__from_resi_e75b3344(l15);
+                {
+                    struct core__result__Result__rt_tuple2_u64_Planned_Refusal r = core__result__ResultFromResidualErrResidual__from_resi_e75b3344(l23.s1);
+                    l0.tag = r.tag;
+                    l0.s0.f0 = r.s0.f0;
+                    l0.s0.f1.f0 = r.s0.f1.f0;
+                    l0.s0.f1.f1 = r.s0.f1.f1;
+                    l0.s1.tag = r.s1.tag;
+                }
                 return l0;
                 break;
             }
         }
-        l22.f0 = l25.f0;
-        l22.f1.f0 = l25.f1.f0;
-        l22.f1.f1 = l25.f1.f1;
-        l12 = l22.f0;
-        l13.f0 = l22.f1.f0;
-        l13.f1 = l22.f1.f1;
-        l9 = read_schedule__joined(l9, l13);
-        l10 = l12;
+        l9 = read_schedule__joined(l9, l23.s0.f1);
+        l10 = l23.s0.f0;
         l11 = (uint8_t)((uint32_t)l11 + (uint32_t)UINT8_C(1));
     }
 end1:;
     l26.f0 = l10;
-    l26.f1 = l9;
+    l26.f1.f0 = l9.f0;
+    l26.f1.f1 = l9.f1;
     l0.tag = UINT8_C(0);
-    l0.s0 = l26;
+    l0.s0.f0 = l26.f0;
+    l0.s0.f1.f0 = l26.f1.f0;
+    l0.s0.f1.f1 = l26.f1.f1;
     return l0;
 }
 
@@ -17047,92 +16192,94 @@ static RT_HERE struct read_schedule__Planned read_schedule__one(uint8_t l1)
 static RT_HERE struct core__result__Result__rt_tuple2_u64_Done_Refusal read_stmts__simple__create(rt_slice l1, uint8_t *l2, struct judge__Scope l3, uint64_t l4)
 {
     struct core__result__Result__rt_tuple2_u64_Done_Refusal l0;
-    uint64_t l5;
-    struct judge__Facts l6;
-    struct rt_tuple2__u64_Facts l7;
-    struct core__result__ErrResidual__Refusal l8;
-    struct rt_tuple2__u64_Facts l9;
     struct core__ops__ControlFlow__ErrResidual_Refusal_rt_tuple2_u64_Facts l10;
     struct core__result__Result__rt_tuple2_u64_Facts_Refusal l11;
-    struct rt_tuple2__u64_Facts l12;
     struct judge__Done l13;
     struct rt_tuple2__u64_Done l14;
     l11 = read_exprs__expr__construct(l1, l2, l3.f0, l4, UINT64_C(16));
     l10 = core__result__ResultTry__branch__rt_tuple2_u64_Facts_Refusal(l11);
     switch (l10.tag) {
         case UINT8_C(0): {
-            l7.f0 = l10.s0.f0;
-            l7.f1.f0 = l10.s0.f1.f0;
-            l7.f1.f1 = l10.s0.f1.f1;
-            l7.f1.f2 = l10.s0.f1.f2;
-            l7.f1.f3 = l10.s0.f1.f3;
-            l12.f0 = l7.f0;
-            l12.f1.f0 = l7.f1.f0;
-            l12.f1.f1 = l7.f1.f1;
-            l12.f1.f2 = l7.f1.f2;
-            l12.f1.f3 = l7.f1.f3;
             break;
         }
         case UINT8_C(1): default: {
-            l8.f0 = l10.s1.f0;
-            l0 = core__result__ResultFromResidualErrResidual__from_resi_8768edf0(l8);
+            {
+                struct core__result__Result__rt_tuple2_u64_Done_Refusal r = core__result__ResultFromResidualErrResidual__from_resi_8768edf0(l10.s1);
+                l0.tag = r.tag;
+                l0.s0.f0 = r.s0.f0;
+                l0.s0.f1.f0 = r.s0.f1.f0;
+                l0.s0.f1.f1 = r.s0.f1.f1;
+                l0.s0.f1.f2 = r.s0.f1.f2;
+                l0.s0.f1.f3 = r.s0.f1.f3;
+                l0.s0.f1.f4.f0 = r.s0.f1.f4.f0;
+                l0.s0.f1.f4.f1 = r.s0.f1.f4.f1;
+                l0.s1.tag = r.s1.tag;
+            }
             return l0;
             break;
         }
     }
-    l9.f0 = l12.f0;
-    l9.f1.f0 = l12.f1.f0;
-    l9.f1.f1 = l12.f1.f1;
-    l9.f1.f2 = l12.f1.f2;
-    l9.f1.f3 = l12.f1.f3;
-    l5 = l9.f0;
-    l6.f0 = l9.f1.f0;
-    l6.f1 = l9.f1.f1;
-    l6.f2 = l9.f1.f2;
-    l6.f3 = l9.f1.f3;
-    l13 = read_stmts__simple__labelled(l3, l6);
-    l14.f0 = l5;
-    l14.f1 = l13;
+    l13 = read_stmts__simple__labelled(l3, l10.s0.f1);
+    l14.f0 = l10.s0.f0;
+    l14.f1.f0 = l13.f0;
+    l14.f1.f1 = l13.f1;
+    l14.f1.f2 = l13.f2;
+    l14.f1.f3 = l13.f3;
+    l14.f1.f4.f0 = l13.f4.f0;
+    l14.f1.f4.f1 = l13.f4.f1;
     l0.tag = UINT8_C(0);
-    l0.s0 = l14;
+    l0.s0.f0 = l14.f0;
+    l0.s0.f1.f0 = l14.f1.f0;
+    l0.s0.f1.f1 = l14.f1.f1;
+    l0.s0.f1.f2 = l14.f1.f2;
+    l0.s0.f1.f3 = l14.f1.f3;
+    l0.s0.f1.f4.f0 = l14.f1.f4.f0;
+    l0.s0.f1.f4.f1 = l14.f1.f4.f1;
     return l0;
 }
 
 static RT_HERE struct core__result__Result__rt_tuple2_u64_Done_Refusal read_stmts__simple__declare(rt_slice l1, uint8_t *l2, struct judge__Scope l3, uint64_t l4)
 {
     struct core__result__Result__rt_tuple2_u64_Done_Refusal l0;
-    uint8_t l5;
-    uint64_t l6;
-    struct rt_tuple2__u8_u64 l7;
-    struct core__result__ErrResidual__Refusal l8;
-    struct rt_tuple2__u8_u64 l9;
     struct core__ops__ControlFlow__ErrResidual_Refusal_rt_tuple2_u8_u64 l10;
     struct core__result__Result__rt_tuple2_u8_u64_Refusal l11;
     uint64_t l12;
-    struct rt_tuple2__u8_u64 l13;
     l12 = (*(struct read_exprs__read__Names *)l2).f0.n;
     l11 = read_exprs__read__type_byte(l1, l12, l4);
     l10 = core__result__ResultTry__branch__rt_tuple2_u8_u64_Refusal(l11);
     switch (l10.tag) {
         case UINT8_C(0): {
-            l7.f0 = l10.s0.f0;
-            l7.f1 = l10.s0.f1;
-            l13.f0 = l7.f0;
-            l13.f1 = l7.f1;
             break;
         }
         case UINT8_C(1): default: {
-            l8.f0 = l10.s1.f0;
-            l0 = core__result__ResultFromResidualErrResidual__from_resi_8768edf0(l8);
+            {
+                struct core__result__Result__rt_tuple2_u64_Done_Refusal r = core__result__ResultFromResidualErrResidual__from_resi_8768edf0(l10.s1);
+                l0.tag = r.tag;
+                l0.s0.f0 = r.s0.f0;
+                l0.s0.f1.f0 = r.s0.f1.f0;
+                l0.s0.f1.f1 = r.s0.f1.f1;
+                l0.s0.f1.f2 = r.s0.f1.f2;
+                l0.s0.f1.f3 = r.s0.f1.f3;
+                l0.s0.f1.f4.f0 = r.s0.f1.f4.f0;
+                l0.s0.f1.f4.f1 = r.s0.f1.f4.f1;
+                l0.s1.tag = r.s1.tag;
+            }
             return l0;
             break;
         }
     }
-    l9.f0 = l13.f0;
-    l9.f1 = l13.f1;
-    l5 = l9.f0;
-    l6 = l9.f1;
-    l0 = read_stmts__simple__local(l1, l2, l3, l5, l6);
+    {
+        struct core__result__Result__rt_tuple2_u64_Done_Refusal r = read_stmts__simple__local(l1, l2, l3, l10.s0.f0, l10.s0.f1);
+        l0.tag = r.tag;
+        l0.s0.f0 = r.s0.f0;
+        l0.s0.f1.f0 = r.s0.f1.f0;
+        l0.s0.f1.f1 = r.s0.f1.f1;
+        l0.s0.f1.f2 = r.s0.f1.f2;
+        l0.s0.f1.f3 = r.s0.f1.f3;
+        l0.s0.f1.f4.f0 = r.s0.f1.f4.f0;
+        l0.s0.f1.f4.f1 = r.s0.f1.f4.f1;
+        l0.s1.tag = r.s1.tag;
+    }
     return l0;
 }
 
@@ -17143,92 +16290,84 @@ static RT_HERE struct judge__Done read_stmts__simple__labelled(struct judge__Sco
     l0.f1 = l2.f1;
     l0.f2 = UINT64_C(1);
     l0.f3 = l2.f2;
-    l0.f4 = l1;
+    l0.f4.f0 = l1.f0;
+    l0.f4.f1 = l1.f1;
     return l0;
 }
 
 static RT_HERE struct core__result__Result__rt_tuple2_u64_Done_Refusal read_stmts__simple__local(rt_slice l1, uint8_t *l2, struct judge__Scope l3, uint8_t l4, uint64_t l5)
 {
     struct core__result__Result__rt_tuple2_u64_Done_Refusal l0;
-    uint8_t l6;
-    uint64_t l7;
-    struct rt_tuple2__u8_u64 l8;
-    struct core__result__ErrResidual__Refusal l9;
-    uint64_t l10;
-    struct judge__Facts l11;
-    struct rt_tuple2__u64_Facts l12;
-    struct core__result__ErrResidual__Refusal l13;
     uint8_t l14;
-    struct rt_tuple2__u8_u64 l15;
     struct core__ops__ControlFlow__ErrResidual_Refusal_rt_tuple2_u8_u64 l16;
     struct core__result__Result__rt_tuple2_u8_u64_Refusal l17;
-    struct rt_tuple2__u8_u64 l18;
-    struct rt_tuple2__u64_Facts l19;
     struct core__ops__ControlFlow__ErrResidual_Refusal_rt_tuple2_u64_Facts l20;
     struct core__result__Result__rt_tuple2_u64_Facts_Refusal l21;
-    struct rt_tuple2__u64_Facts l22;
     struct judge__Done l23;
     struct rt_tuple2__u64_Done l24;
     l17 = read_exprs__read__ranged(l1, UINT64_C(8), UINT64_C(16), l5);
     l16 = core__result__ResultTry__branch__rt_tuple2_u8_u64_Refusal(l17);
     switch (l16.tag) {
         case UINT8_C(0): {
-            l8.f0 = l16.s0.f0;
-            l8.f1 = l16.s0.f1;
-            l18.f0 = l8.f0;
-            l18.f1 = l8.f1;
             break;
         }
         case UINT8_C(1): default: {
-            l9.f0 = l16.s1.f0;
-            l0 = core__result__ResultFromResidualErrResidual__from_resi_8768edf0(l9);
+            {
+                struct core__result__Result__rt_tuple2_u64_Done_Refusal r = core__result__ResultFromResidualErrResidual__from_resi_8768edf0(l16.s1);
+                l0.tag = r.tag;
+                l0.s0.f0 = r.s0.f0;
+                l0.s0.f1.f0 = r.s0.f1.f0;
+                l0.s0.f1.f1 = r.s0.f1.f1;
+                l0.s0.f1.f2 = r.s0.f1.f2;
+                l0.s0.f1.f3 = r.s0.f1.f3;
+                l0.s0.f1.f4.f0 = r.s0.f1.f4.f0;
+                l0.s0.f1.f4.f1 = r.s0.f1.f4.f1;
+                l0.s1.tag = r.s1.tag;
+            }
             return l0;
             break;
         }
     }
-    l15.f0 = l18.f0;
-    l15.f1 = l18.f1;
-    l6 = l15.f0;
-    l7 = l15.f1;
-    l21 = read_exprs__expr__expr(l1, l2, l3.f0, l7, UINT64_C(16));
+    l21 = read_exprs__expr__expr(l1, l2, l3.f0, l16.s0.f1, UINT64_C(16));
     l20 = core__result__ResultTry__branch__rt_tuple2_u64_Facts_Refusal(l21);
     switch (l20.tag) {
         case UINT8_C(0): {
-            l12.f0 = l20.s0.f0;
-            l12.f1.f0 = l20.s0.f1.f0;
-            l12.f1.f1 = l20.s0.f1.f1;
-            l12.f1.f2 = l20.s0.f1.f2;
-            l12.f1.f3 = l20.s0.f1.f3;
-            l22.f0 = l12.f0;
-            l22.f1.f0 = l12.f1.f0;
-            l22.f1.f1 = l12.f1.f1;
-            l22.f1.f2 = l12.f1.f2;
-            l22.f1.f3 = l12.f1.f3;
             break;
         }
         case UINT8_C(1): default: {
-            l13.f0 = l20.s1.f0;
-            l0 = core__result__ResultFromResidualErrResidual__from_resi_8768edf0(l13);
+            {
+                struct core__result__Result__rt_tuple2_u64_Done_Refusal r = core__result__ResultFromResidualErrResidual__from_resi_8768edf0(l20.s1);
+                l0.tag = r.tag;
+                l0.s0.f0 = r.s0.f0;
+                l0.s0.f1.f0 = r.s0.f1.f0;
+                l0.s0.f1.f1 = r.s0.f1.f1;
+                l0.s0.f1.f2 = r.s0.f1.f2;
+                l0.s0.f1.f3 = r.s0.f1.f3;
+                l0.s0.f1.f4.f0 = r.s0.f1.f4.f0;
+                l0.s0.f1.f4.f1 = r.s0.f1.f4.f1;
+                l0.s1.tag = r.s1.tag;
+            }
             return l0;
             break;
         }
     }
-    l19.f0 = l22.f0;
-    l19.f1.f0 = l22.f1.f0;
-    l19.f1.f1 = l22.f1.f1;
-    l19.f1.f2 = l22.f1.f2;
-    l19.f1.f3 = l22.f1.f3;
-    l10 = l19.f0;
-    l11.f0 = l19.f1.f0;
-    l11.f1 = l19.f1.f1;
-    l11.f2 = l19.f1.f2;
-    l11.f3 = l19.f1.f3;
-    l14 = (uint8_t)((uint32_t)l6 - (uint32_t)UINT8_C(8));
-    l23 = judging__statement__declared(l3, l4, l14, l11);
-    l24.f0 = l10;
-    l24.f1 = l23;
+    l14 = (uint8_t)((uint32_t)l16.s0.f0 - (uint32_t)UINT8_C(8));
+    l23 = judging__statement__declared(l3, l4, l14, l20.s0.f1);
+    l24.f0 = l20.s0.f0;
+    l24.f1.f0 = l23.f0;
+    l24.f1.f1 = l23.f1;
+    l24.f1.f2 = l23.f2;
+    l24.f1.f3 = l23.f3;
+    l24.f1.f4.f0 = l23.f4.f0;
+    l24.f1.f4.f1 = l23.f4.f1;
     l0.tag = UINT8_C(0);
-    l0.s0 = l24;
+    l0.s0.f0 = l24.f0;
+    l0.s0.f1.f0 = l24.f1.f0;
+    l0.s0.f1.f1 = l24.f1.f1;
+    l0.s0.f1.f2 = l24.f1.f2;
+    l0.s0.f1.f3 = l24.f1.f3;
+    l0.s0.f1.f4.f0 = l24.f1.f4.f0;
+    l0.s0.f1.f4.f1 = l24.f1.f4.f1;
     return l0;
 }
 
@@ -17239,17 +16378,50 @@ static inline struct core__result__Result__rt_tuple2_u64_Done_Refusal read_stmts
     struct types__refusal__Refusal l7;
     l6 = (uint8_t)(l4 == UINT8_C(2));
     if (l6) {
-        l0 = read_stmts__simple__declare(l1, l2, l3, l5);
+        {
+            struct core__result__Result__rt_tuple2_u64_Done_Refusal r = read_stmts__simple__declare(l1, l2, l3, l5);
+            l0.tag = r.tag;
+            l0.s0.f0 = r.s0.f0;
+            l0.s0.f1.f0 = r.s0.f1.f0;
+            l0.s0.f1.f1 = r.s0.f1.f1;
+            l0.s0.f1.f2 = r.s0.f1.f2;
+            l0.s0.f1.f3 = r.s0.f1.f3;
+            l0.s0.f1.f4.f0 = r.s0.f1.f4.f0;
+            l0.s0.f1.f4.f1 = r.s0.f1.f4.f1;
+            l0.s1.tag = r.s1.tag;
+        }
         return l0;
     }
     l6 = (uint8_t)(l4 == UINT8_C(3));
     if (l6) {
-        l0 = read_stmts__simple__update(l1, l2, l3, l5);
+        {
+            struct core__result__Result__rt_tuple2_u64_Done_Refusal r = read_stmts__simple__update(l1, l2, l3, l5);
+            l0.tag = r.tag;
+            l0.s0.f0 = r.s0.f0;
+            l0.s0.f1.f0 = r.s0.f1.f0;
+            l0.s0.f1.f1 = r.s0.f1.f1;
+            l0.s0.f1.f2 = r.s0.f1.f2;
+            l0.s0.f1.f3 = r.s0.f1.f3;
+            l0.s0.f1.f4.f0 = r.s0.f1.f4.f0;
+            l0.s0.f1.f4.f1 = r.s0.f1.f4.f1;
+            l0.s1.tag = r.s1.tag;
+        }
         return l0;
     }
     l6 = (uint8_t)(l4 == UINT8_C(4));
     if (l6) {
-        l0 = read_stmts__simple__create(l1, l2, l3, l5);
+        {
+            struct core__result__Result__rt_tuple2_u64_Done_Refusal r = read_stmts__simple__create(l1, l2, l3, l5);
+            l0.tag = r.tag;
+            l0.s0.f0 = r.s0.f0;
+            l0.s0.f1.f0 = r.s0.f1.f0;
+            l0.s0.f1.f1 = r.s0.f1.f1;
+            l0.s0.f1.f2 = r.s0.f1.f2;
+            l0.s0.f1.f3 = r.s0.f1.f3;
+            l0.s0.f1.f4.f0 = r.s0.f1.f4.f0;
+            l0.s0.f1.f4.f1 = r.s0.f1.f4.f1;
+            l0.s1.tag = r.s1.tag;
+        }
         return l0;
     }
     l7.tag = UINT8_C(4);
@@ -17261,148 +16433,120 @@ static inline struct core__result__Result__rt_tuple2_u64_Done_Refusal read_stmts
 static RT_HERE struct core__result__Result__rt_tuple2_u64_Done_Refusal read_stmts__simple__update(rt_slice l1, uint8_t *l2, struct judge__Scope l3, uint64_t l4)
 {
     struct core__result__Result__rt_tuple2_u64_Done_Refusal l0;
-    uint64_t l5;
-    uint8_t l6;
-    struct judge__Judged l7;
-    struct rt_tuple3__u64_u8_Judged l8;
-    struct core__result__ErrResidual__Refusal l9;
-    uint64_t l10;
-    struct judge__Facts l11;
-    struct rt_tuple2__u64_Facts l12;
-    struct core__result__ErrResidual__Refusal l13;
-    struct rt_tuple3__u64_u8_Judged l14;
     struct core__ops__ControlFlow__ErrResidual_Refusal_rt_tuple3__6dda1656 l15;
     struct core__result__Result__rt_tuple3_u64_u8_Judged_Refusal l16;
-    struct rt_tuple3__u64_u8_Judged l17;
-    struct rt_tuple2__u64_Facts l18;
     struct core__ops__ControlFlow__ErrResidual_Refusal_rt_tuple2_u64_Facts l19;
     struct core__result__Result__rt_tuple2_u64_Facts_Refusal l20;
-    struct rt_tuple2__u64_Facts l21;
     struct judge__Done l22;
     struct rt_tuple2__u64_Done l23;
     l16 = read_exprs__path__path(l1, l2, l3.f0, l4);
     l15 = core__result__ResultTry__branch__rt_tuple3_u64_u8_Judg_d80f38d1(l16);
     switch (l15.tag) {
         case UINT8_C(0): {
-            l8.f0 = l15.s0.f0;
-            l8.f1 = l15.s0.f1;
-            l8.f2.f0 = l15.s0.f2.f0;
-            l8.f2.f1 = l15.s0.f2.f1;
-            l17.f0 = l8.f0;
-            l17.f1 = l8.f1;
-            l17.f2.f0 = l8.f2.f0;
-            l17.f2.f1 = l8.f2.f1;
             break;
         }
         case UINT8_C(1): default: {
-            l9.f0 = l15.s1.f0;
-            l0 = core__result__ResultFromResidualErrResidual__from_resi_8768edf0(l9);
+            {
+                struct core__result__Result__rt_tuple2_u64_Done_Refusal r = core__result__ResultFromResidualErrResidual__from_resi_8768edf0(l15.s1);
+                l0.tag = r.tag;
+                l0.s0.f0 = r.s0.f0;
+                l0.s0.f1.f0 = r.s0.f1.f0;
+                l0.s0.f1.f1 = r.s0.f1.f1;
+                l0.s0.f1.f2 = r.s0.f1.f2;
+                l0.s0.f1.f3 = r.s0.f1.f3;
+                l0.s0.f1.f4.f0 = r.s0.f1.f4.f0;
+                l0.s0.f1.f4.f1 = r.s0.f1.f4.f1;
+                l0.s1.tag = r.s1.tag;
+            }
             return l0;
             break;
         }
     }
-    l14.f0 = l17.f0;
-    l14.f1 = l17.f1;
-    l14.f2.f0 = l17.f2.f0;
-    l14.f2.f1 = l17.f2.f1;
-    l5 = l14.f0;
-    l6 = l14.f1;
-    l7.f0 = l14.f2.f0;
-    l7.f1 = l14.f2.f1;
-    l20 = read_exprs__expr__expr(l1, l2, l3.f0, l5, UINT64_C(16));
+    l20 = read_exprs__expr__expr(l1, l2, l3.f0, l15.s0.f0, UINT64_C(16));
     l19 = core__result__ResultTry__branch__rt_tuple2_u64_Facts_Refusal(l20);
     switch (l19.tag) {
         case UINT8_C(0): {
-            l12.f0 = l19.s0.f0;
-            l12.f1.f0 = l19.s0.f1.f0;
-            l12.f1.f1 = l19.s0.f1.f1;
-            l12.f1.f2 = l19.s0.f1.f2;
-            l12.f1.f3 = l19.s0.f1.f3;
-            l21.f0 = l12.f0;
-            l21.f1.f0 = l12.f1.f0;
-            l21.f1.f1 = l12.f1.f1;
-            l21.f1.f2 = l12.f1.f2;
-            l21.f1.f3 = l12.f1.f3;
             break;
         }
         case UINT8_C(1): default: {
-            l13.f0 = l19.s1.f0;
-            l0 = core__result__ResultFromResidualErrResidual__from_resi_8768edf0(l13);
+            {
+                struct core__result__Result__rt_tuple2_u64_Done_Refusal r = core__result__ResultFromResidualErrResidual__from_resi_8768edf0(l19.s1);
+                l0.tag = r.tag;
+                l0.s0.f0 = r.s0.f0;
+                l0.s0.f1.f0 = r.s0.f1.f0;
+                l0.s0.f1.f1 = r.s0.f1.f1;
+                l0.s0.f1.f2 = r.s0.f1.f2;
+                l0.s0.f1.f3 = r.s0.f1.f3;
+                l0.s0.f1.f4.f0 = r.s0.f1.f4.f0;
+                l0.s0.f1.f4.f1 = r.s0.f1.f4.f1;
+                l0.s1.tag = r.s1.tag;
+            }
             return l0;
             break;
         }
     }
-    l18.f0 = l21.f0;
-    l18.f1.f0 = l21.f1.f0;
-    l18.f1.f1 = l21.f1.f1;
-    l18.f1.f2 = l21.f1.f2;
-    l18.f1.f3 = l21.f1.f3;
-    l10 = l18.f0;
-    l11.f0 = l18.f1.f0;
-    l11.f1 = l18.f1.f1;
-    l11.f2 = l18.f1.f2;
-    l11.f3 = l18.f1.f3;
-    l22 = judging__statement__updated(l3, l6, l7, l11);
-    l23.f0 = l10;
-    l23.f1 = l22;
+    l22 = judging__statement__updated(l3, l15.s0.f1, l15.s0.f2, l19.s0.f1);
+    l23.f0 = l19.s0.f0;
+    l23.f1.f0 = l22.f0;
+    l23.f1.f1 = l22.f1;
+    l23.f1.f2 = l22.f2;
+    l23.f1.f3 = l22.f3;
+    l23.f1.f4.f0 = l22.f4.f0;
+    l23.f1.f4.f1 = l22.f4.f1;
     l0.tag = UINT8_C(0);
-    l0.s0 = l23;
+    l0.s0.f0 = l23.f0;
+    l0.s0.f1.f0 = l23.f1.f0;
+    l0.s0.f1.f1 = l23.f1.f1;
+    l0.s0.f1.f2 = l23.f1.f2;
+    l0.s0.f1.f3 = l23.f1.f3;
+    l0.s0.f1.f4.f0 = l23.f1.f4.f0;
+    l0.s0.f1.f4.f1 = l23.f1.f4.f1;
     return l0;
 }
 
 static inline struct core__result__Result__rt_tuple2_u64_Done_Refusal read_stmts__stmt__body(rt_slice l1, uint8_t *l2, struct judge__Scope l3, uint64_t l4, uint64_t l5)
 {
     struct core__result__Result__rt_tuple2_u64_Done_Refusal l0;
-    uint8_t l6;
-    uint64_t l7;
-    struct rt_tuple2__u8_u64 l8;
-    struct core__result__ErrResidual__Refusal l9;
     struct judge__Done l10;
     uint64_t l11;
     uint8_t l12;
-    uint64_t l13;
-    struct judge__Done l14;
-    struct rt_tuple2__u64_Done l15;
-    struct core__result__ErrResidual__Refusal l16;
-    struct rt_tuple2__u8_u64 l17;
     struct core__ops__ControlFlow__ErrResidual_Refusal_rt_tuple2_u8_u64 l18;
     struct core__result__Result__rt_tuple2_u8_u64_Refusal l19;
     uint64_t l20;
-    struct rt_tuple2__u8_u64 l21;
     uint8_t l22;
-    struct rt_tuple2__u64_Done l23;
     struct core__ops__ControlFlow__ErrResidual_Refusal_rt_tuple2_u64_Done l24;
     struct core__result__Result__rt_tuple2_u64_Done_Refusal l25;
     struct judge__Scope l26;
-    struct rt_tuple2__u64_Done l27;
     struct rt_tuple2__u64_Done l28;
     l20 = (uint64_t)((uint64_t)UINT64_C(32) + (uint64_t)UINT64_C(1));
     l19 = read_exprs__read__ranged(l1, UINT64_C(0), l20, l4);
     l18 = core__result__ResultTry__branch__rt_tuple2_u8_u64_Refusal(l19);
     switch (l18.tag) {
         case UINT8_C(0): {
-            l8.f0 = l18.s0.f0;
-            l8.f1 = l18.s0.f1;
-            l21.f0 = l8.f0;
-            l21.f1 = l8.f1;
             break;
         }
         case UINT8_C(1): default: {
-            l9.f0 = l18.s1.f0;
-            l0 = core__result__ResultFromResidualErrResidual__from_resi_8768edf0(l9);
+            {
+                struct core__result__Result__rt_tuple2_u64_Done_Refusal r = core__result__ResultFromResidualErrResidual__from_resi_8768edf0(l18.s1);
+                l0.tag = r.tag;
+                l0.s0.f0 = r.s0.f0;
+                l0.s0.f1.f0 = r.s0.f1.f0;
+                l0.s0.f1.f1 = r.s0.f1.f1;
+                l0.s0.f1.f2 = r.s0.f1.f2;
+                l0.s0.f1.f3 = r.s0.f1.f3;
+                l0.s0.f1.f4.f0 = r.s0.f1.f4.f0;
+                l0.s0.f1.f4.f1 = r.s0.f1.f4.f1;
+                l0.s1.tag = r.s1.tag;
+            }
             return l0;
             break;
         }
     }
-    l17.f0 = l21.f0;
-    l17.f1 = l21.f1;
-    l6 = l17.f0;
-    l7 = l17.f1;
     l10 = judging__statement__nothing(l3);
-    l11 = l7;
+    l11 = l18.s0.f1;
     l12 = UINT8_C(0);
     for (;;) {
-        l22 = (uint8_t)(l12 < l6);
+        l22 = (uint8_t)(l12 < l18.s0.f0);
         if (l22) {
         } else {
             goto end1;
@@ -17413,59 +16557,51 @@ static inline struct core__result__Result__rt_tuple2_u64_Done_Refusal read_stmts
         l24 = core__result__ResultTry__branch__rt_tuple2_u64_Done_Refusal(l25);
         switch (l24.tag) {
             case UINT8_C(0): {
-                l15.f0 = l24.s0.f0;
-                l15.f1.f0 = l24.s0.f1.f0;
-                l15.f1.f1 = l24.s0.f1.f1;
-                l15.f1.f2 = l24.s0.f1.f2;
-                l15.f1.f3 = l24.s0.f1.f3;
-                l15.f1.f4.f0 = l24.s0.f1.f4.f0;
-                l15.f1.f4.f1 = l24.s0.f1.f4.f1;
-                l27.f0 = l15.f0;
-                l27.f1.f0 = l15.f1.f0;
-                l27.f1.f1 = l15.f1.f1;
-                l27.f1.f2 = l15.f1.f2;
-                l27.f1.f3 = l15.f1.f3;
-                l27.f1.f4.f0 = l15.f1.f4.f0;
-                l27.f1.f4.f1 = l15.f1.f4.f1;
                 break;
             }
             case UINT8_C(1): default: {
-                l16.f0 = l24.s1.f0;
-                l0 = core__result__ResultFromResidualErrResidual__from_resi_8768edf0(l16);
+                {
+                    struct core__result__Result__rt_tuple2_u64_Done_Refusal r = core__result__ResultFromResidualErrResidual__from_resi_8768edf0(l24.s1);
+                    l0.tag = r.tag;
+                    l0.s0.f0 = r.s0.f0;
+                    l0.s0.f1.f0 = r.s0.f1.f0;
+                    l0.s0.f1.f1 = r.s0.f1.f1;
+                    l0.s0.f1.f2 = r.s0.f1.f2;
+                    l0.s0.f1.f3 = r.s0.f1.f3;
+                    l0.s0.f1.f4.f0 = r.s0.f1.f4.f0;
+                    l0.s0.f1.f4.f1 = r.s0.f1.f4.f1;
+                    l0.s1.tag = r.s1.tag;
+                }
                 return l0;
                 break;
             }
         }
-        l23.f0 = l27.f0;
-        l23.f1.f0 = l27.f1.f0;
-        l23.f1.f1 = l27.f1.f1;
-        l23.f1.f2 = l27.f1.f2;
-        l23.f1.f3 = l27.f1.f3;
-        l23.f1.f4.f0 = l27.f1.f4.f0;
-        l23.f1.f4.f1 = l27.f1.f4.f1;
-        l13 = l23.f0;
-        l14.f0 = l23.f1.f0;
-        l14.f1 = l23.f1.f1;
-        l14.f2 = l23.f1.f2;
-        l14.f3 = l23.f1.f3;
-        l14.f4.f0 = l23.f1.f4.f0;
-        l14.f4.f1 = l23.f1.f4.f1;
-        l10 = judging__statement__followed(l10, l14);
-        l11 = l13;
+        l10 = judging__statement__followed(l10, l24.s0.f1);
+        l11 = l24.s0.f0;
         l12 = (uint8_t)((uint32_t)l12 + (uint32_t)UINT8_C(1));
     }
 end1:;
     l28.f0 = l11;
-    l28.f1 = l10;
+    l28.f1.f0 = l10.f0;
+    l28.f1.f1 = l10.f1;
+    l28.f1.f2 = l10.f2;
+    l28.f1.f3 = l10.f3;
+    l28.f1.f4.f0 = l10.f4.f0;
+    l28.f1.f4.f1 = l10.f4.f1;
     l0.tag = UINT8_C(0);
-    l0.s0 = l28;
+    l0.s0.f0 = l28.f0;
+    l0.s0.f1.f0 = l28.f1.f0;
+    l0.s0.f1.f1 = l28.f1.f1;
+    l0.s0.f1.f2 = l28.f1.f2;
+    l0.s0.f1.f3 = l28.f1.f3;
+    l0.s0.f1.f4.f0 = l28.f1.f4.f0;
+    l0.s0.f1.f4.f1 = l28.f1.f4.f1;
     return l0;
 }
 
 static inline struct core__result__Result__rt_tuple2_u64_Done_Refusal read_stmts__stmt__stmt(rt_slice l1, uint8_t *l2, struct judge__Scope l3, uint64_t l4, uint64_t l5)
 {
     struct core__result__Result__rt_tuple2_u64_Done_Refusal l0;
-    uint8_t l6;
     uint64_t l7;
     uint64_t l8;
     uint8_t l9;
@@ -17483,11 +16619,21 @@ static inline struct core__result__Result__rt_tuple2_u64_Done_Refusal read_stmts
     }
     l11 = l1.p + (size_t)l4;
     l12 = (*(uint8_t *)l11);
-    l6 = l12;
     l7 = (uint64_t)((uint64_t)l4 + (uint64_t)UINT64_C(1));
-    l9 = (uint8_t)(l6 != UINT8_C(1));
+    l9 = (uint8_t)(l12 != UINT8_C(1));
     if (l9) {
-        l0 = read_stmts__simple__simple(l1, l2, l3, l6, l7);
+        {
+            struct core__result__Result__rt_tuple2_u64_Done_Refusal r = read_stmts__simple__simple(l1, l2, l3, l12, l7);
+            l0.tag = r.tag;
+            l0.s0.f0 = r.s0.f0;
+            l0.s0.f1.f0 = r.s0.f1.f0;
+            l0.s0.f1.f1 = r.s0.f1.f1;
+            l0.s0.f1.f2 = r.s0.f1.f2;
+            l0.s0.f1.f3 = r.s0.f1.f3;
+            l0.s0.f1.f4.f0 = r.s0.f1.f4.f0;
+            l0.s0.f1.f4.f1 = r.s0.f1.f4.f1;
+            l0.s1.tag = r.s1.tag;
+        }
         return l0;
     }
     l9 = (uint8_t)(l5 == UINT64_C(0));
@@ -17498,131 +16644,109 @@ static inline struct core__result__Result__rt_tuple2_u64_Done_Refusal read_stmts
         return l0;
     }
     l8 = (uint64_t)((uint64_t)l5 - (uint64_t)UINT64_C(1));
-    l0 = read_stmts__stmt__when(l1, l2, l3, l7, l8);
+    {
+        struct core__result__Result__rt_tuple2_u64_Done_Refusal r = read_stmts__stmt__when(l1, l2, l3, l7, l8);
+        l0.tag = r.tag;
+        l0.s0.f0 = r.s0.f0;
+        l0.s0.f1.f0 = r.s0.f1.f0;
+        l0.s0.f1.f1 = r.s0.f1.f1;
+        l0.s0.f1.f2 = r.s0.f1.f2;
+        l0.s0.f1.f3 = r.s0.f1.f3;
+        l0.s0.f1.f4.f0 = r.s0.f1.f4.f0;
+        l0.s0.f1.f4.f1 = r.s0.f1.f4.f1;
+        l0.s1.tag = r.s1.tag;
+    }
     return l0;
 }
 
 static inline struct core__result__Result__rt_tuple2_u64_Done_Refusal read_stmts__stmt__when(rt_slice l1, uint8_t *l2, struct judge__Scope l3, uint64_t l4, uint64_t l5)
 {
     struct core__result__Result__rt_tuple2_u64_Done_Refusal l0;
-    uint64_t l6;
-    struct judge__Facts l7;
-    struct rt_tuple2__u64_Facts l8;
-    struct core__result__ErrResidual__Refusal l9;
-    uint64_t l10;
-    struct judge__Done l11;
-    struct rt_tuple2__u64_Done l12;
-    struct core__result__ErrResidual__Refusal l13;
-    struct rt_tuple2__u64_Facts l14;
     struct core__ops__ControlFlow__ErrResidual_Refusal_rt_tuple2_u64_Facts l15;
     struct core__result__Result__rt_tuple2_u64_Facts_Refusal l16;
-    struct rt_tuple2__u64_Facts l17;
-    struct rt_tuple2__u64_Done l18;
     struct core__ops__ControlFlow__ErrResidual_Refusal_rt_tuple2_u64_Done l19;
     struct core__result__Result__rt_tuple2_u64_Done_Refusal l20;
-    struct rt_tuple2__u64_Done l21;
     struct judge__Done l22;
     struct rt_tuple2__u64_Done l23;
     l16 = read_exprs__expr__expr(l1, l2, l3.f0, l4, UINT64_C(16));
     l15 = core__result__ResultTry__branch__rt_tuple2_u64_Facts_Refusal(l16);
     switch (l15.tag) {
         case UINT8_C(0): {
-            l8.f0 = l15.s0.f0;
-            l8.f1.f0 = l15.s0.f1.f0;
-            l8.f1.f1 = l15.s0.f1.f1;
-            l8.f1.f2 = l15.s0.f1.f2;
-            l8.f1.f3 = l15.s0.f1.f3;
-            l17.f0 = l8.f0;
-            l17.f1.f0 = l8.f1.f0;
-            l17.f1.f1 = l8.f1.f1;
-            l17.f1.f2 = l8.f1.f2;
-            l17.f1.f3 = l8.f1.f3;
             break;
         }
         case UINT8_C(1): default: {
-            l9.f0 = l15.s1.f0;
-            l0 = core__result__ResultFromResidualErrResidual__from_resi_8768edf0(l9);
+            {
+                struct core__result__Result__rt_tuple2_u64_Done_Refusal r = core__result__ResultFromResidualErrResidual__from_resi_8768edf0(l15.s1);
+                l0.tag = r.tag;
+                l0.s0.f0 = r.s0.f0;
+                l0.s0.f1.f0 = r.s0.f1.f0;
+                l0.s0.f1.f1 = r.s0.f1.f1;
+                l0.s0.f1.f2 = r.s0.f1.f2;
+                l0.s0.f1.f3 = r.s0.f1.f3;
+                l0.s0.f1.f4.f0 = r.s0.f1.f4.f0;
+                l0.s0.f1.f4.f1 = r.s0.f1.f4.f1;
+                l0.s1.tag = r.s1.tag;
+            }
             return l0;
             break;
         }
     }
-    l14.f0 = l17.f0;
-    l14.f1.f0 = l17.f1.f0;
-    l14.f1.f1 = l17.f1.f1;
-    l14.f1.f2 = l17.f1.f2;
-    l14.f1.f3 = l17.f1.f3;
-    l6 = l14.f0;
-    l7.f0 = l14.f1.f0;
-    l7.f1 = l14.f1.f1;
-    l7.f2 = l14.f1.f2;
-    l7.f3 = l14.f1.f3;
-    l20 = read_stmts__stmt__body(l1, l2, l3, l6, l5);
+    l20 = read_stmts__stmt__body(l1, l2, l3, l15.s0.f0, l5);
     l19 = core__result__ResultTry__branch__rt_tuple2_u64_Done_Refusal(l20);
     switch (l19.tag) {
         case UINT8_C(0): {
-            l12.f0 = l19.s0.f0;
-            l12.f1.f0 = l19.s0.f1.f0;
-            l12.f1.f1 = l19.s0.f1.f1;
-            l12.f1.f2 = l19.s0.f1.f2;
-            l12.f1.f3 = l19.s0.f1.f3;
-            l12.f1.f4.f0 = l19.s0.f1.f4.f0;
-            l12.f1.f4.f1 = l19.s0.f1.f4.f1;
-            l21.f0 = l12.f0;
-            l21.f1.f0 = l12.f1.f0;
-            l21.f1.f1 = l12.f1.f1;
-            l21.f1.f2 = l12.f1.f2;
-            l21.f1.f3 = l12.f1.f3;
-            l21.f1.f4.f0 = l12.f1.f4.f0;
-            l21.f1.f4.f1 = l12.f1.f4.f1;
             break;
         }
         case UINT8_C(1): default: {
-            l13.f0 = l19.s1.f0;
-            l0 = core__result__ResultFromResidualErrResidual__from_resi_8768edf0(l13);
+            {
+                struct core__result__Result__rt_tuple2_u64_Done_Refusal r = core__result__ResultFromResidualErrResidual__from_resi_8768edf0(l19.s1);
+                l0.tag = r.tag;
+                l0.s0.f0 = r.s0.f0;
+                l0.s0.f1.f0 = r.s0.f1.f0;
+                l0.s0.f1.f1 = r.s0.f1.f1;
+                l0.s0.f1.f2 = r.s0.f1.f2;
+                l0.s0.f1.f3 = r.s0.f1.f3;
+                l0.s0.f1.f4.f0 = r.s0.f1.f4.f0;
+                l0.s0.f1.f4.f1 = r.s0.f1.f4.f1;
+                l0.s1.tag = r.s1.tag;
+            }
             return l0;
             break;
         }
     }
-    l18.f0 = l21.f0;
-    l18.f1.f0 = l21.f1.f0;
-    l18.f1.f1 = l21.f1.f1;
-    l18.f1.f2 = l21.f1.f2;
-    l18.f1.f3 = l21.f1.f3;
-    l18.f1.f4.f0 = l21.f1.f4.f0;
-    l18.f1.f4.f1 = l21.f1.f4.f1;
-    l10 = l18.f0;
-    l11.f0 = l18.f1.f0;
-    l11.f1 = l18.f1.f1;
-    l11.f2 = l18.f1.f2;
-    l11.f3 = l18.f1.f3;
-    l11.f4.f0 = l18.f1.f4.f0;
-    l11.f4.f1 = l18.f1.f4.f1;
-    l22 = judging__statement__branched(l3, l7, l11);
-    l23.f0 = l10;
-    l23.f1 = l22;
+    l22 = judging__statement__branched(l3, l15.s0.f1, l19.s0.f1);
+    l23.f0 = l19.s0.f0;
+    l23.f1.f0 = l22.f0;
+    l23.f1.f1 = l22.f1;
+    l23.f1.f2 = l22.f2;
+    l23.f1.f3 = l22.f3;
+    l23.f1.f4.f0 = l22.f4.f0;
+    l23.f1.f4.f1 = l22.f4.f1;
     l0.tag = UINT8_C(0);
-    l0.s0 = l23;
+    l0.s0.f0 = l23.f0;
+    l0.s0.f1.f0 = l23.f1.f0;
+    l0.s0.f1.f1 = l23.f1.f1;
+    l0.s0.f1.f2 = l23.f1.f2;
+    l0.s0.f1.f3 = l23.f1.f3;
+    l0.s0.f1.f4.f0 = l23.f1.f4.f0;
+    l0.s0.f1.f4.f1 = l23.f1.f4.f1;
     return l0;
 }
 
 static inline struct read_text__Answer read_text__answered(struct core__result__Result__u32_Refusal l1)
 {
     struct read_text__Answer l0;
-    uint32_t l2;
-    struct types__refusal__Refusal l3;
     struct read_text__Answer l4;
     uint32_t l5;
     uint8_t l6;
     switch (l1.tag) {
         case UINT8_C(0): {
-            l2 = l1.s0;
             l4.f0 = UINT32_C(0);
-            l4.f1 = l2;
+            l4.f1 = l1.s0;
             break;
         }
         case UINT8_C(1): default: {
-            l3 = l1.s1;
-            l6 = types__refusal__U8FromRefusal__from(l3);
+            l6 = types__refusal__U8FromRefusal__from(l1.s1);
             l5 = core__convert__U32FromU8__from(l6);
             l4.f0 = l5;
             l4.f1 = UINT32_C(0);
@@ -17694,16 +16818,13 @@ static inline struct core__result__Result__u32_Refusal read_text__imaged(rt_slic
 {
     struct core__result__Result__u32_Refusal l0;
     struct core__result__Result__u64_WriteError l3;
-    uint64_t l4;
-    uint64_t l5;
     uint8_t l6;
     struct types__refusal__Refusal l7;
     uint8_t *l8;
     rt_slice l9;
     struct types__refusal__Refusal l10;
     uint32_t l11;
-    l5 = l2.n;
-    l6 = (uint8_t)(l5 < UINT64_C(32768));
+    l6 = (uint8_t)(l2.n < UINT64_C(32768));
     if (l6) {
         l7.tag = UINT8_C(12);
         l0.tag = UINT8_C(1);
@@ -17716,7 +16837,6 @@ static inline struct core__result__Result__u32_Refusal read_text__imaged(rt_slic
     l3 = blocks__write_image(l1, UINT64_C(64), l9);
     switch (l3.tag) {
         case UINT8_C(0): {
-            l4 = l3.s0;
             break;
         }
         case UINT8_C(1): default: {
@@ -17727,7 +16847,7 @@ static inline struct core__result__Result__u32_Refusal read_text__imaged(rt_slic
             break;
         }
     }
-    l11 = (uint32_t)l4;
+    l11 = (uint32_t)l3.s0;
     l0.tag = UINT8_C(0);
     l0.s0 = l11;
     return l0;
@@ -17738,14 +16858,8 @@ static RT_APART struct core__result__Result__u32_Refusal read_text__meant(rt_sli
     struct core__result__Result__u32_Refusal l0;
     struct rt_array_uint8_65536 l5;
     struct rt_array_uint64_323 l6;
-    uint64_t l7;
-    uint64_t l8;
-    struct core__result__ErrResidual__NoProgram l9;
     struct rt_array_uint8_32402 l10;
     struct core__option__Option__u64 l11;
-    uint64_t l12;
-    uint64_t l13;
-    struct core__result__ErrResidual__Refusal l14;
     struct core__ops__ControlFlow__ErrResidual_NoProgram_u64 l15;
     struct core__result__Result__u64_NoProgram l16;
     uint8_t *l17;
@@ -17754,7 +16868,6 @@ static RT_APART struct core__result__Result__u32_Refusal read_text__meant(rt_sli
     rt_slice l20;
     uint8_t *l21;
     rt_slice l22;
-    uint64_t l23;
     uint8_t *l24;
     rt_slice l25;
     uint8_t *l26;
@@ -17766,7 +16879,6 @@ static RT_APART struct core__result__Result__u32_Refusal read_text__meant(rt_sli
     struct core__ops__ControlFlow__ErrResidual_Refusal_u64 l32;
     struct core__result__Result__u64_Refusal l33;
     struct types__refusal__Refusal l34;
-    uint64_t l35;
     uint8_t *l36;
     uint8_t *l37;
     uint64_t l38;
@@ -17789,22 +16901,18 @@ static RT_APART struct core__result__Result__u32_Refusal read_text__meant(rt_sli
     l15 = core__result__ResultTry__branch__u64_NoProgram(l16);
     switch (l15.tag) {
         case UINT8_C(0): {
-            l8 = l15.s0;
-            l23 = l8;
             break;
         }
         case UINT8_C(1): default: {
-            l9.f0.f0 = l15.s1.f0.f0;
-            l0 = core__result__ResultFromResidualErrResidual__from_resi_07f82ab4(l9);
+            l0 = core__result__ResultFromResidualErrResidual__from_resi_07f82ab4(l15.s1);
             return l0;
             break;
         }
     }
-    l7 = l23;
     memset(&l10, 0, sizeof l10);
     l24 = (uint8_t *)&l5;
     l25.p = l24;
-    l25.n = l7;
+    l25.n = l15.s0;
     l26 = (uint8_t *)&l6;
     l27.p = l26;
     l27.n = UINT64_C(323);
@@ -17820,21 +16928,17 @@ static RT_APART struct core__result__Result__u32_Refusal read_text__meant(rt_sli
     l32 = core__result__ResultTry__branch__u64_Refusal(l33);
     switch (l32.tag) {
         case UINT8_C(0): {
-            l13 = l32.s0;
-            l35 = l13;
             break;
         }
         case UINT8_C(1): default: {
-            l14.f0 = l32.s1.f0;
-            l0 = core__result__ResultFromResidualErrResidual__from_resi_29ec18ee(l14);
+            l0 = core__result__ResultFromResidualErrResidual__from_resi_29ec18ee(l32.s1);
             return l0;
             break;
         }
     }
-    l12 = l35;
     l36 = (uint8_t *)&l10;
-    l37 = l36 + (size_t)l12;
-    l38 = (uint64_t)((uint64_t)UINT64_C(32402) - (uint64_t)l12);
+    l37 = l36 + (size_t)l32.s0;
+    l38 = (uint64_t)((uint64_t)UINT64_C(32402) - (uint64_t)l32.s0);
     l39 = (uint8_t *)&(*(uint8_t *)l37);
     l40.p = l39;
     l40.n = l38;
@@ -17905,7 +17009,6 @@ static inline struct core__result__Result__u32_Refusal read_text__passes(rt_slic
 static RT_APART struct read_text__Answer read_text__read(rt_slice l1, rt_slice l2)
 {
     struct read_text__Answer l0;
-    uint64_t l3;
     struct rt_array_uint8_65536 l4;
     struct rt_array_uint8_65537 l5;
     uint8_t l6;
@@ -17918,8 +17021,7 @@ static RT_APART struct read_text__Answer read_text__read(rt_slice l1, rt_slice l
     rt_slice l13;
     uint8_t *l14;
     rt_slice l15;
-    l3 = l1.n;
-    l6 = (uint8_t)(UINT64_C(65536) < l3);
+    l6 = (uint8_t)(UINT64_C(65536) < l1.n);
     if (l6) {
         l7.tag = UINT8_C(14);
         l8.tag = UINT8_C(1);
@@ -17931,7 +17033,7 @@ static RT_APART struct read_text__Answer read_text__read(rt_slice l1, rt_slice l
     memset(&l5, 0, sizeof l5);
     l10 = (uint8_t *)&l4;
     l11.p = l10;
-    l11.n = l3;
+    l11.n = l1.n;
     l12 = (uint8_t *)&l5;
     l13.p = l12;
     l13.n = UINT64_C(65537);
@@ -17943,11 +17045,10 @@ static RT_APART struct read_text__Answer read_text__read(rt_slice l1, rt_slice l
     return l0;
 }
 
-static RT_HERE uint8_t resolve__declarations__between_all__unit(rt_slice l1)
+static RT_WITHIN uint8_t resolve__declarations__between_all__unit(rt_slice l1)
 {
     uint8_t l0;
     uint64_t l4;
-    uint64_t l5;
     uint8_t l6;
     uint8_t *l7;
     uint64_t l8;
@@ -17959,9 +17060,8 @@ static RT_HERE uint8_t resolve__declarations__between_all__unit(rt_slice l1)
     uint64_t l14;
     uint8_t l15;
     l4 = UINT64_C(1);
-    l5 = l1.n;
     for (;;) {
-        l6 = (uint8_t)(l4 < l5);
+        l6 = (uint8_t)(l4 < l1.n);
         if (l6) {
         } else {
             goto end1;
@@ -17998,7 +17098,7 @@ static inline uint8_t resolve__declarations__few(uint64_t l1, uint64_t l2)
     return l0;
 }
 
-static RT_HERE uint8_t resolve__declarations__fn__rows_ok__between_all(uint8_t *l1, uint64_t l2, uint64_t l3)
+static RT_WITHIN uint8_t resolve__declarations__fn__rows_ok__between_all(uint8_t *l1, uint64_t l2, uint64_t l3)
 {
     uint8_t l0;
     rt_slice l4;
@@ -18009,7 +17109,7 @@ static RT_HERE uint8_t resolve__declarations__fn__rows_ok__between_all(uint8_t *
     return l0;
 }
 
-static RT_HERE uint8_t resolve__declarations__fn__rows_ok__between_all_Fn__call(uint8_t *l1, uint64_t l2, uint64_t l3)
+static RT_WITHIN uint8_t resolve__declarations__fn__rows_ok__between_all_Fn__call(uint8_t *l1, uint64_t l2, uint64_t l3)
 {
     uint8_t l0;
     l0 = resolve__declarations__fn__rows_ok__between_all(l1, l2, l3);
@@ -18047,7 +17147,6 @@ static inline uint8_t resolve__declarations__row_ok(rt_slice l1, rt_slice l2, ui
     uint8_t l5;
     uint8_t l6;
     uint8_t l7;
-    uint64_t l8;
     uint64_t l9;
     uint64_t l10;
     uint8_t *l11;
@@ -18056,8 +17155,7 @@ static inline uint8_t resolve__declarations__row_ok(rt_slice l1, rt_slice l2, ui
     rt_slice l14;
     l7 = (uint8_t)(l3 <= l4);
     if (l7) {
-        l8 = l2.n;
-        l7 = (uint8_t)(l4 <= l8);
+        l7 = (uint8_t)(l4 <= l2.n);
     }
     l6 = l7;
     if (l6) {
@@ -18105,7 +17203,6 @@ static inline uint64_t resolve__declarations__step_names(rt_slice l1, rt_slice l
     uint64_t l5;
     uint8_t *l6;
     uint8_t l7;
-    uint64_t l8;
     uint8_t l9;
     uint64_t l10;
     uint8_t *l11;
@@ -18117,9 +17214,8 @@ static inline uint64_t resolve__declarations__step_names(rt_slice l1, rt_slice l
     uint8_t l17;
     l4 = UINT64_C(0);
     l5 = UINT64_C(0);
-    l8 = l2.n;
     for (;;) {
-        l9 = (uint8_t)(l5 < l8);
+        l9 = (uint8_t)(l5 < l2.n);
         if (l9) {
         } else {
             goto end2;
@@ -18157,7 +17253,6 @@ static inline uint64_t resolve__declarations__type_byte(rt_slice l1, rt_slice l2
     uint64_t l6;
     uint64_t l7;
     struct core__option__Option__u64 l8;
-    uint64_t l9;
     l5 = (uint8_t)(l3 <= UINT8_C(2));
     if (l5) {
         l0 = core__convert__UsizeFromU8__from(l3);
@@ -18165,8 +17260,7 @@ static inline uint64_t resolve__declarations__type_byte(rt_slice l1, rt_slice l2
     }
     l6 = core__convert__UsizeFromU8__from(UINT8_C(16));
     l8 = resolve__names__lookup(l1, l2, l4);
-    l9 = l2.n;
-    l7 = core__option__Option__unwrap_or__u64(l8, l9);
+    l7 = core__option__Option__unwrap_or__u64(l8, l2.n);
     l0 = (uint64_t)((uint64_t)l6 + (uint64_t)l7);
     return l0;
 }
@@ -18184,7 +17278,6 @@ static inline uint8_t resolve__declarations__types(rt_slice l1, rt_slice l2, rt_
     uint64_t l6;
     uint8_t *l7;
     uint64_t l8;
-    uint64_t l9;
     uint8_t l10;
     uint64_t l11;
     uint8_t *l12;
@@ -18197,9 +17290,8 @@ static inline uint8_t resolve__declarations__types(rt_slice l1, rt_slice l2, rt_
     uint8_t *l20;
     rt_slice l21;
     l6 = UINT64_C(0);
-    l9 = l4.n;
     for (;;) {
-        l10 = (uint8_t)(l6 < l9);
+        l10 = (uint8_t)(l6 < l4.n);
         if (l10) {
         } else {
             goto end2;
@@ -18284,17 +17376,13 @@ static inline struct core__option__Option__u32 resolve__literals__nat_word(rt_sl
 static inline struct core__option__Option__u32 resolve__literals__signed(uint8_t l1, uint64_t l2)
 {
     struct core__option__Option__u32 l0;
-    uint8_t l3;
-    uint64_t l4;
     struct core__option__Option__u32 l5;
     uint8_t l6;
     uint32_t l7;
     uint64_t l8;
     uint32_t l9;
-    l3 = l1;
-    l4 = l2;
-    if (l3) {
-        l6 = (uint8_t)(l4 < UINT64_C(2147483648));
+    if (l1) {
+        l6 = (uint8_t)(l2 < UINT64_C(2147483648));
         if (l6) {
             l7 = (uint32_t)l2;
             l5.tag = UINT8_C(1);
@@ -18303,7 +17391,7 @@ static inline struct core__option__Option__u32 resolve__literals__signed(uint8_t
         }
         goto end2;
     } else {
-        switch (l4) {
+        switch (l2) {
             case UINT64_C(0): {
                 l5.tag = UINT8_C(1);
                 l5.s0 = UINT32_C(0);
@@ -18311,7 +17399,7 @@ static inline struct core__option__Option__u32 resolve__literals__signed(uint8_t
                 break;
             }
             default: {
-                l6 = (uint8_t)(l4 < UINT64_C(2147483649));
+                l6 = (uint8_t)(l2 < UINT64_C(2147483649));
                 if (l6) {
                     l8 = (uint64_t)((uint64_t)UINT64_C(4294967296) - (uint64_t)l2);
                     l9 = (uint32_t)l8;
@@ -18336,31 +17424,27 @@ static inline uint64_t resolve__literals__value(rt_slice l1, uint64_t l2)
     uint64_t l0;
     uint64_t l3;
     uint64_t l4;
-    uint8_t l5;
-    uint64_t l6;
     uint8_t l7;
     uint8_t *l8;
     uint8_t l9;
     uint8_t l10;
     l3 = UINT64_C(0);
     l4 = l2;
-    l6 = l1.n;
     for (;;) {
-        l7 = (uint8_t)(l4 < l6);
+        l7 = (uint8_t)(l4 < l1.n);
         if (l7) {
         } else {
             goto end1;
         }
         l8 = l1.p + (size_t)l4;
         l9 = (*(uint8_t *)l8);
-        l5 = l9;
-        l7 = lexer__bytes__is_digit(l5);
+        l7 = lexer__bytes__is_digit(l9);
         l10 = (uint8_t)!l7;
         if (l10) {
             l0 = l3;
             return l0;
         }
-        l3 = resolve__literals__longer(l3, l5);
+        l3 = resolve__literals__longer(l3, l9);
         l4 = (uint64_t)((uint64_t)l4 + (uint64_t)UINT64_C(1));
     }
 end1:;
@@ -18368,7 +17452,7 @@ end1:;
     return l0;
 }
 
-static RT_HERE uint8_t resolve__names__fn__lookup__position(uint8_t *l1, uint8_t *l2)
+static RT_WITHIN uint8_t resolve__names__fn__lookup__position(uint8_t *l1, uint8_t *l2)
 {
     uint8_t l0;
     rt_slice l3;
@@ -18383,7 +17467,7 @@ static RT_HERE uint8_t resolve__names__fn__lookup__position(uint8_t *l1, uint8_t
     return l0;
 }
 
-static RT_HERE uint8_t resolve__names__fn__lookup__position_FnMut__call_mut(uint8_t *l1, uint8_t *l2)
+static RT_WITHIN uint8_t resolve__names__fn__lookup__position_FnMut__call_mut(uint8_t *l1, uint8_t *l2)
 {
     uint8_t l0;
     uint8_t *l3;
@@ -18468,7 +17552,7 @@ end1:;
     return l0;
 }
 
-static RT_HERE uint8_t resolve__resolve__declarations__few_Fn__call(uint8_t *l1, uint64_t l2, uint64_t l3)
+static RT_WITHIN uint8_t resolve__resolve__declarations__few_Fn__call(uint8_t *l1, uint64_t l2, uint64_t l3)
 {
     uint8_t l0;
     (void)l1;
@@ -18509,7 +17593,6 @@ static inline uint8_t resolve__tables__distinct(rt_slice l1, rt_slice l2)
     uint8_t l0;
     uint64_t l3;
     uint8_t *l4;
-    uint64_t l5;
     uint8_t l6;
     uint64_t l7;
     uint8_t *l8;
@@ -18525,9 +17608,8 @@ static inline uint8_t resolve__tables__distinct(rt_slice l1, rt_slice l2)
     struct core__option__Option__u64 l18;
     uint8_t *l19;
     l3 = UINT64_C(0);
-    l5 = l2.n;
     for (;;) {
-        l6 = (uint8_t)(l3 < l5);
+        l6 = (uint8_t)(l3 < l2.n);
         if (l6) {
         } else {
             goto end2;
@@ -18560,12 +17642,10 @@ end2:;
 
 static inline void resolve__tables__put(rt_slice l1, uint64_t l2, uint64_t l3)
 {
-    uint64_t l4;
     uint8_t l5;
     uint64_t l6;
     uint8_t *l7;
-    l4 = l1.n;
-    l5 = (uint8_t)(l2 < l4);
+    l5 = (uint8_t)(l2 < l1.n);
     if (l5) {
         l6 = (uint64_t)((uint64_t)l2 * (uint64_t)UINT64_C(8));
         l7 = l1.p + (size_t)l6;
@@ -18574,12 +17654,11 @@ static inline void resolve__tables__put(rt_slice l1, uint64_t l2, uint64_t l3)
     return;
 }
 
-static RT_HERE uint8_t resolve__declarations__between_all__between_all_Self_s_50cd00d0(rt_slice l1, struct resolve__declarations__fn__rows_ok__between_all_Self___17487529 l2)
+static RT_WITHIN uint8_t resolve__declarations__between_all__between_all_Self_s_50cd00d0(rt_slice l1, struct resolve__declarations__fn__rows_ok__between_all_Self___17487529 l2)
 {
     uint8_t l0;
     struct resolve__declarations__fn__rows_ok__between_all_Self___17487529 l3;
     uint64_t l4;
-    uint64_t l5;
     uint8_t l6;
     uint8_t *l7;
     uint64_t l8;
@@ -18595,9 +17674,8 @@ static RT_HERE uint8_t resolve__declarations__between_all__between_all_Self_s_50
     l3.f0 = l2.f0;
     l3.f1 = l2.f1;
     l4 = UINT64_C(1);
-    l5 = l1.n;
     for (;;) {
-        l6 = (uint8_t)(l4 < l5);
+        l6 = (uint8_t)(l4 < l1.n);
         if (l6) {
         } else {
             goto end1;
@@ -18634,18 +17712,12 @@ static RT_APART struct core__result__Result__run_images_Report_Refusal run_image
     struct core__result__Result__run_images_Report_Refusal l0;
     struct load__Loaded l8;
     struct table_read__parameters__Parameters l9;
-    rt_slice l10;
     struct rt_array_uint16_1024 l11;
     struct rt_array_uint64_129 l12;
     uint64_t l13;
     struct rt_array_uint8_8568 l14;
     struct rt_array_uint16_1536 l15;
     struct rt_array_uint64_8192 l16;
-    struct seating__Seat l17;
-    struct seating__Seat l18;
-    struct core__result__ErrResidual__Refusal l19;
-    struct core__result__ErrResidual__Refusal l21;
-    struct layout__Numbers l22;
     struct engine__Machine l23;
     struct interpreter__turns__Program l24;
     struct interpreter__turns__Ran l25;
@@ -18657,18 +17729,14 @@ static RT_APART struct core__result__Result__run_images_Report_Refusal run_image
     rt_slice l32;
     struct core__ops__ControlFlow__ErrResidual_Refusal_Seat l33;
     struct core__result__Result__Seat_Refusal l34;
-    struct table_read__parameters__Parameters l35;
     uint8_t *l36;
     rt_slice l37;
     uint8_t *l38;
     rt_slice l39;
     uint8_t *l40;
     rt_slice l41;
-    struct seating__Seat l42;
     struct core__ops__ControlFlow__ErrResidual_Refusal_unit l43;
     struct core__result__Result__unit_Refusal l44;
-    uint64_t l45;
-    uint64_t l46;
     uint8_t *l47;
     rt_slice l48;
     uint8_t *l49;
@@ -18698,7 +17766,6 @@ static RT_APART struct core__result__Result__run_images_Report_Refusal run_image
     l8.f5 = (*(struct seating__Opened *)l1).f0.f5;
     l8.f6 = (*(struct seating__Opened *)l1).f0.f6;
     l9 = seating__parameters(l1);
-    l10 = l9.f0;
     memset(&l11, 0, sizeof l11);
     memset(&l12, 0, sizeof l12);
     l13 = (uint64_t)l8.f3;
@@ -18713,8 +17780,6 @@ static RT_APART struct core__result__Result__run_images_Report_Refusal run_image
     memset(&l14, 0, sizeof l14);
     memset(&l15, 0, sizeof l15);
     memset(&l16, 0, sizeof l16);
-    l35.f0 = l9.f0;
-    l35.f1 = l9.f1;
     l36 = (uint8_t *)&l14;
     l37.p = l36;
     l37.n = UINT64_C(8568);
@@ -18724,55 +17789,27 @@ static RT_APART struct core__result__Result__run_images_Report_Refusal run_image
     l40 = (uint8_t *)&l16;
     l41.p = l40;
     l41.n = UINT64_C(8192);
-    l34 = seating__seat_table(l8.f1, l35, l4, l37, l39, l41);
+    l34 = seating__seat_table(l8.f1, l9, l4, l37, l39, l41);
     l33 = core__result__ResultTry__branch__Seat_Refusal(l34);
     switch (l33.tag) {
         case UINT8_C(0): {
-            l18.f0 = l33.s0.f0;
-            l18.f1.f0 = l33.s0.f1.f0;
-            l18.f1.f1 = l33.s0.f1.f1;
-            l18.f1.f2 = l33.s0.f1.f2;
-            l18.f1.f3 = l33.s0.f1.f3;
-            l18.f1.f4 = l33.s0.f1.f4;
-            l18.f1.f5 = l33.s0.f1.f5;
-            l18.f1.f6 = l33.s0.f1.f6;
-            l42.f0 = l18.f0;
-            l42.f1.f0 = l18.f1.f0;
-            l42.f1.f1 = l18.f1.f1;
-            l42.f1.f2 = l18.f1.f2;
-            l42.f1.f3 = l18.f1.f3;
-            l42.f1.f4 = l18.f1.f4;
-            l42.f1.f5 = l18.f1.f5;
-            l42.f1.f6 = l18.f1.f6;
             break;
         }
         case UINT8_C(1): default: {
-            l19.f0 = l33.s1.f0;
-            l0 = core__result__ResultFromResidualErrResidual__from_resi_abcbd695(l19);
+            l0 = core__result__ResultFromResidualErrResidual__from_resi_abcbd695(l33.s1);
             return l0;
             break;
         }
     }
-    l17.f0 = l42.f0;
-    l17.f1.f0 = l42.f1.f0;
-    l17.f1.f1 = l42.f1.f1;
-    l17.f1.f2 = l42.f1.f2;
-    l17.f1.f3 = l42.f1.f3;
-    l17.f1.f4 = l42.f1.f4;
-    l17.f1.f5 = l42.f1.f5;
-    l17.f1.f6 = l42.f1.f6;
     l28 = l6.n;
-    l45 = l7.n;
-    l46 = l5.n;
-    l44 = run_images__room(l28, l45, l46);
+    l44 = run_images__room(l28, l7.n, l5.n);
     l43 = core__result__ResultTry__branch__unit_Refusal(l44);
     switch (l43.tag) {
         case UINT8_C(0): {
             break;
         }
         case UINT8_C(1): default: {
-            l21.f0 = l43.s0.f0;
-            l0 = core__result__ResultFromResidualErrResidual__from_resi_abcbd695(l21);
+            l0 = core__result__ResultFromResidualErrResidual__from_resi_abcbd695(l43.s0);
             return l0;
             break;
         }
@@ -18780,15 +17817,14 @@ static RT_APART struct core__result__Result__run_images_Report_Refusal run_image
     l47 = (uint8_t *)&(*(uint64_t *)l7.p);
     l48.p = l47;
     l48.n = l7.n;
-    emit_steps__program(l2, l10, l17.f0, l48);
-    l22.f0 = l17.f1.f0;
-    l22.f1 = l17.f1.f1;
-    l22.f2 = l17.f1.f2;
-    l22.f3 = l17.f1.f3;
-    l22.f4 = l17.f1.f4;
-    l22.f5 = l17.f1.f5;
-    l22.f6 = l17.f1.f6;
-    l23.f0 = l22;
+    emit_steps__program(l2, l9.f0, l33.s0.f0, l48);
+    l23.f0.f0 = l33.s0.f1.f0;
+    l23.f0.f1 = l33.s0.f1.f1;
+    l23.f0.f2 = l33.s0.f1.f2;
+    l23.f0.f3 = l33.s0.f1.f3;
+    l23.f0.f4 = l33.s0.f1.f4;
+    l23.f0.f5 = l33.s0.f1.f5;
+    l23.f0.f6 = l33.s0.f1.f6;
     l49 = (uint8_t *)&(*(uint64_t *)l7.p);
     l50.p = l49;
     l50.n = l7.n;
@@ -18799,7 +17835,7 @@ static RT_APART struct core__result__Result__run_images_Report_Refusal run_image
     l54.p = l53;
     l54.n = UINT64_C(1024);
     l24.f0 = l50;
-    l24.f1 = l10;
+    l24.f1 = l9.f0;
     l24.f2 = l52;
     l24.f3 = l54;
     l55 = (uint8_t *)&l24;
@@ -18822,9 +17858,13 @@ static RT_APART struct core__result__Result__run_images_Report_Refusal run_image
     l66 = (uint8_t *)&(*(uint8_t *)l6.p);
     l67.p = l66;
     l67.n = l6.n;
-    l26 = run_images__reported(l10, l61, l63, l25, l8.f6, l65, l67);
+    l26 = run_images__reported(l9.f0, l61, l63, l25, l8.f6, l65, l67);
     l0.tag = UINT8_C(0);
-    l0.s0 = l26;
+    l0.s0.f0 = l26.f0;
+    l0.s0.f1 = l26.f1;
+    l0.s0.f2 = l26.f2;
+    l0.s0.f3 = l26.f3;
+    l0.s0.f4 = l26.f4;
     return l0;
 }
 
@@ -18842,8 +17882,6 @@ static RT_HERE struct run_images__Report run_images__refused(uint8_t l1)
 static RT_HERE struct run_images__Report run_images__reported(rt_slice l1, rt_slice l2, rt_slice l3, struct interpreter__turns__Ran l4, uint8_t l5, rt_slice l6, rt_slice l7)
 {
     struct run_images__Report l0;
-    struct engine__Machine l8;
-    uint64_t l9;
     uint64_t l10;
     uint8_t *l11;
     rt_slice l12;
@@ -18852,24 +17890,16 @@ static RT_HERE struct run_images__Report run_images__reported(rt_slice l1, rt_sl
     uint32_t l15;
     uint8_t l16;
     uint16_t l17;
-    l8.f0.f0 = l4.f0.f0.f0;
-    l8.f0.f1 = l4.f0.f0.f1;
-    l8.f0.f2 = l4.f0.f0.f2;
-    l8.f0.f3 = l4.f0.f0.f3;
-    l8.f0.f4 = l4.f0.f0.f4;
-    l8.f0.f5 = l4.f0.f0.f5;
-    l8.f0.f6 = l4.f0.f0.f6;
-    l9 = l8.f0.f0;
     l11 = (uint8_t *)&(*(uint8_t *)l6.p);
     l12.p = l11;
     l12.n = l6.n;
     l13 = (uint8_t *)&(*(uint8_t *)l7.p);
     l14.p = l13;
     l14.n = l7.n;
-    l10 = table_write__write(l1, l2, l3, l9, l12, l14);
+    l10 = table_write__write(l1, l2, l3, l4.f0.f0.f0, l12, l14);
     l15 = (uint32_t)l4.f2;
     l16 = (uint8_t)l10;
-    l17 = (uint16_t)l8.f0.f5;
+    l17 = (uint16_t)l4.f0.f0.f5;
     l0.f0 = l4.f1;
     l0.f1 = l15;
     l0.f2 = l16;
@@ -18920,15 +17950,12 @@ static RT_APART struct run_images__Report run_images__run(rt_slice l1, rt_slice 
     struct rt_array_uint8_5730 l6;
     struct rt_array_uint16_512 l7;
     struct seating__Opened l8;
-    struct seating__Opened l9;
-    struct types__refusal__Refusal l10;
     uint64_t l11;
     struct core__result__Result__Opened_Refusal l12;
     uint8_t *l13;
     rt_slice l14;
     uint8_t *l15;
     rt_slice l16;
-    struct seating__Opened l17;
     uint8_t l18;
     struct core__result__Result__run_images_Report_Refusal l19;
     uint8_t *l20;
@@ -18951,43 +17978,24 @@ static RT_APART struct run_images__Report run_images__run(rt_slice l1, rt_slice 
     l12 = seating__open_program(l1, l14, l16);
     switch (l12.tag) {
         case UINT8_C(0): {
-            l9.f0.f0 = l12.s0.f0.f0;
-            l9.f0.f1 = l12.s0.f0.f1;
-            l9.f0.f2 = l12.s0.f0.f2;
-            l9.f0.f3 = l12.s0.f0.f3;
-            l9.f0.f4 = l12.s0.f0.f4;
-            l9.f0.f5 = l12.s0.f0.f5;
-            l9.f0.f6 = l12.s0.f0.f6;
-            l9.f1 = l12.s0.f1;
-            l9.f2 = l12.s0.f2;
-            l17.f0.f0 = l9.f0.f0;
-            l17.f0.f1 = l9.f0.f1;
-            l17.f0.f2 = l9.f0.f2;
-            l17.f0.f3 = l9.f0.f3;
-            l17.f0.f4 = l9.f0.f4;
-            l17.f0.f5 = l9.f0.f5;
-            l17.f0.f6 = l9.f0.f6;
-            l17.f1 = l9.f1;
-            l17.f2 = l9.f2;
             break;
         }
         case UINT8_C(1): default: {
-            l10 = l12.s1;
-            l18 = types__refusal__U8FromRefusal__from(l10);
+            l18 = types__refusal__U8FromRefusal__from(l12.s1);
             l0 = run_images__refused(l18);
             return l0;
             break;
         }
     }
-    l8.f0.f0 = l17.f0.f0;
-    l8.f0.f1 = l17.f0.f1;
-    l8.f0.f2 = l17.f0.f2;
-    l8.f0.f3 = l17.f0.f3;
-    l8.f0.f4 = l17.f0.f4;
-    l8.f0.f5 = l17.f0.f5;
-    l8.f0.f6 = l17.f0.f6;
-    l8.f1 = l17.f1;
-    l8.f2 = l17.f2;
+    l8.f0.f0 = l12.s0.f0.f0;
+    l8.f0.f1 = l12.s0.f0.f1;
+    l8.f0.f2 = l12.s0.f0.f2;
+    l8.f0.f3 = l12.s0.f0.f3;
+    l8.f0.f4 = l12.s0.f0.f4;
+    l8.f0.f5 = l12.s0.f0.f5;
+    l8.f0.f6 = l12.s0.f0.f6;
+    l8.f1 = l12.s0.f1;
+    l8.f2 = l12.s0.f2;
     l11 = l8.f0.f0;
     l20 = (uint8_t *)&l8;
     l21 = (uint8_t *)&l6;
@@ -19010,27 +18018,19 @@ static RT_APART struct run_images__Report run_images__run(rt_slice l1, rt_slice 
 static RT_HERE struct run_images__Report run_images__settled(struct core__result__Result__run_images_Report_Refusal l1)
 {
     struct run_images__Report l0;
-    struct run_images__Report l2;
-    struct types__refusal__Refusal l3;
     struct run_images__Report l4;
     uint8_t l5;
     switch (l1.tag) {
         case UINT8_C(0): {
-            l2.f0 = l1.s0.f0;
-            l2.f1 = l1.s0.f1;
-            l2.f2 = l1.s0.f2;
-            l2.f3 = l1.s0.f3;
-            l2.f4 = l1.s0.f4;
-            l4.f0 = l2.f0;
-            l4.f1 = l2.f1;
-            l4.f2 = l2.f2;
-            l4.f3 = l2.f3;
-            l4.f4 = l2.f4;
+            l4.f0 = l1.s0.f0;
+            l4.f1 = l1.s0.f1;
+            l4.f2 = l1.s0.f2;
+            l4.f3 = l1.s0.f3;
+            l4.f4 = l1.s0.f4;
             break;
         }
         case UINT8_C(1): default: {
-            l3 = l1.s1;
-            l5 = types__refusal__U8FromRefusal__from(l3);
+            l5 = types__refusal__U8FromRefusal__from(l1.s1);
             l4 = run_images__refused(l5);
             break;
         }
@@ -19162,8 +18162,6 @@ end1:;
 static RT_HERE struct layout__Numbers scheduler__schedule__advance(struct layout__Numbers l1, rt_slice l2, rt_slice l3, rt_slice l4)
 {
     struct layout__Numbers l0;
-    uint64_t l5;
-    uint64_t l6;
     uint64_t l7;
     uint8_t *l8;
     uint64_t l9;
@@ -19174,48 +18172,54 @@ static RT_HERE struct layout__Numbers scheduler__schedule__advance(struct layout
     uint64_t l15;
     uint8_t *l16;
     rt_slice l17;
-    uint64_t l18;
-    uint64_t l19;
-    uint64_t l20;
-    uint8_t l21;
-    uint64_t l22;
-    l5 = l1.f1;
-    l7 = (uint64_t)((uint64_t)l5 * (uint64_t)UINT64_C(8));
+    l7 = (uint64_t)((uint64_t)l1.f1 * (uint64_t)UINT64_C(8));
     l8 = l2.p + (size_t)l7;
     l9 = (*(uint64_t *)l8);
-    l6 = l9;
-    l10 = (uint8_t)(l6 < UINT64_C(1024));
+    l10 = (uint8_t)(l9 < UINT64_C(1024));
     if (l10) {
         l12 = (uint8_t *)&(*(uint16_t *)l4.p);
         l13.p = l12;
         l13.n = l4.n;
-        scheduler__begin__begin_all(l3, l13, l6, l1.f0);
-        l14 = (uint64_t)((uint64_t)l5 + (uint64_t)UINT64_C(1));
+        scheduler__begin__begin_all(l3, l13, l9, l1.f0);
+        l14 = (uint64_t)((uint64_t)l1.f1 + (uint64_t)UINT64_C(1));
         l16 = (uint8_t *)&(*(uint16_t *)l4.p);
         l17.p = l16;
         l17.n = l4.n;
         l15 = scheduler__count__holding(l17, l1.f0);
-        l18 = l1.f0;
-        l19 = l1.f2;
-        l20 = l1.f3;
-        l21 = l1.f4;
-        l22 = l1.f6;
-        l0.f0 = l18;
+        l0.f0 = l1.f0;
         l0.f1 = l14;
-        l0.f2 = l19;
-        l0.f3 = l20;
-        l0.f4 = l21;
+        l0.f2 = l1.f2;
+        l0.f3 = l1.f3;
+        l0.f4 = l1.f4;
         l0.f5 = l15;
-        l0.f6 = l22;
+        l0.f6 = l1.f6;
         return l0;
     }
-    l10 = (uint8_t)(l6 == UINT64_C(1024));
+    l10 = (uint8_t)(l9 == UINT64_C(1024));
     if (l10) {
-        l0 = scheduler__schedule__fix(l1);
+        {
+            struct layout__Numbers r = scheduler__schedule__fix(l1);
+            l0.f0 = r.f0;
+            l0.f1 = r.f1;
+            l0.f2 = r.f2;
+            l0.f3 = r.f3;
+            l0.f4 = r.f4;
+            l0.f5 = r.f5;
+            l0.f6 = r.f6;
+        }
         return l0;
     }
-    l7 = (uint64_t)((uint64_t)l6 - (uint64_t)UINT64_C(2048));
-    l0 = scheduler__schedule__round(l7, l1);
+    l7 = (uint64_t)((uint64_t)l9 - (uint64_t)UINT64_C(2048));
+    {
+        struct layout__Numbers r = scheduler__schedule__round(l7, l1);
+        l0.f0 = r.f0;
+        l0.f1 = r.f1;
+        l0.f2 = r.f2;
+        l0.f3 = r.f3;
+        l0.f4 = r.f4;
+        l0.f5 = r.f5;
+        l0.f6 = r.f6;
+    }
     return l0;
 }
 
@@ -19226,25 +18230,17 @@ static RT_HERE struct layout__Numbers scheduler__schedule__fix(struct layout__Nu
     uint64_t l3;
     uint64_t l4;
     uint64_t l5;
-    uint64_t l6;
-    uint8_t l7;
-    uint64_t l8;
-    uint64_t l9;
     l2 = (uint64_t)((uint64_t)l1.f1 + (uint64_t)UINT64_C(1));
     l3 = (uint64_t)((uint64_t)l1.f2 + (uint64_t)UINT64_C(1));
     l4 = (uint64_t)((uint64_t)UINT64_C(2) * (uint64_t)l1.f3);
     l5 = (uint64_t)((uint64_t)l4 + (uint64_t)UINT64_C(1));
-    l6 = l1.f0;
-    l7 = l1.f4;
-    l8 = l1.f5;
-    l9 = l1.f6;
-    l0.f0 = l6;
+    l0.f0 = l1.f0;
     l0.f1 = l2;
     l0.f2 = l3;
     l0.f3 = l5;
-    l0.f4 = l7;
-    l0.f5 = l8;
-    l0.f6 = l9;
+    l0.f4 = l1.f4;
+    l0.f5 = l1.f5;
+    l0.f6 = l1.f6;
     return l0;
 }
 
@@ -19257,47 +18253,29 @@ static RT_HERE struct layout__Numbers scheduler__schedule__round(uint64_t l1, st
     uint64_t l6;
     uint64_t l7;
     uint64_t l8;
-    uint64_t l9;
-    uint8_t l10;
-    uint64_t l11;
-    uint64_t l12;
     uint64_t l13;
-    uint64_t l14;
-    uint64_t l15;
-    uint8_t l16;
-    uint64_t l17;
-    uint64_t l18;
     l3 = (uint64_t)((uint64_t)l2.f3 % (uint64_t)UINT64_C(2));
     l4 = (uint8_t)(l3 == UINT64_C(1));
     if (l4) {
         l6 = (uint64_t)((uint64_t)l2.f1 + (uint64_t)UINT64_C(1));
         l7 = (uint64_t)((uint64_t)l2.f2 - (uint64_t)UINT64_C(1));
         l8 = (uint64_t)((uint64_t)l2.f3 / (uint64_t)UINT64_C(2));
-        l9 = l2.f0;
-        l10 = l2.f4;
-        l11 = l2.f5;
-        l12 = l2.f6;
-        l5.f0 = l9;
+        l5.f0 = l2.f0;
         l5.f1 = l6;
         l5.f2 = l7;
         l5.f3 = l8;
-        l5.f4 = l10;
-        l5.f5 = l11;
-        l5.f6 = l12;
+        l5.f4 = l2.f4;
+        l5.f5 = l2.f5;
+        l5.f6 = l2.f6;
     } else {
         l13 = (uint64_t)((uint64_t)l2.f3 + (uint64_t)UINT64_C(1));
-        l14 = l2.f0;
-        l15 = l2.f2;
-        l16 = l2.f4;
-        l17 = l2.f5;
-        l18 = l2.f6;
-        l5.f0 = l14;
+        l5.f0 = l2.f0;
         l5.f1 = l1;
-        l5.f2 = l15;
+        l5.f2 = l2.f2;
         l5.f3 = l13;
-        l5.f4 = l16;
-        l5.f5 = l17;
-        l5.f6 = l18;
+        l5.f4 = l2.f4;
+        l5.f5 = l2.f5;
+        l5.f6 = l2.f6;
     }
     l0.f0 = l5.f0;
     l0.f1 = l5.f1;
@@ -19313,10 +18291,6 @@ static RT_APART struct core__result__Result__Loaded_Refusal seating__admit(rt_sl
 {
     struct core__result__Result__Loaded_Refusal l0;
     struct rt_array_uint8_32256 l6;
-    struct load__Loaded l7;
-    struct load__Loaded l8;
-    struct core__result__ErrResidual__Refusal l9;
-    uint64_t l10;
     struct core__ops__ControlFlow__ErrResidual_Refusal_Loaded l11;
     struct core__result__Result__Loaded_Refusal l12;
     uint8_t *l13;
@@ -19327,7 +18301,6 @@ static RT_APART struct core__result__Result__Loaded_Refusal seating__admit(rt_sl
     rt_slice l18;
     uint8_t *l19;
     rt_slice l20;
-    struct load__Loaded l21;
     uint8_t *l23;
     rt_slice l24;
     uint8_t *l25;
@@ -19349,46 +18322,40 @@ static RT_APART struct core__result__Result__Loaded_Refusal seating__admit(rt_sl
     l11 = core__result__ResultTry__branch__Loaded_Refusal(l12);
     switch (l11.tag) {
         case UINT8_C(0): {
-            l8.f0 = l11.s0.f0;
-            l8.f1 = l11.s0.f1;
-            l8.f2 = l11.s0.f2;
-            l8.f3 = l11.s0.f3;
-            l8.f4 = l11.s0.f4;
-            l8.f5 = l11.s0.f5;
-            l8.f6 = l11.s0.f6;
-            l21.f0 = l8.f0;
-            l21.f1 = l8.f1;
-            l21.f2 = l8.f2;
-            l21.f3 = l8.f3;
-            l21.f4 = l8.f4;
-            l21.f5 = l8.f5;
-            l21.f6 = l8.f6;
             break;
         }
         case UINT8_C(1): default: {
-            l9.f0 = l11.s1.f0;
-            l0 = core__result__ResultFromResidualErrResidual__from_resi_3d5841e5(l9);
+            {
+                struct core__result__Result__Loaded_Refusal r = core__result__ResultFromResidualErrResidual__from_resi_3d5841e5(l11.s1);
+                l0.tag = r.tag;
+                l0.s0.f0 = r.s0.f0;
+                l0.s0.f1 = r.s0.f1;
+                l0.s0.f2 = r.s0.f2;
+                l0.s0.f3 = r.s0.f3;
+                l0.s0.f4 = r.s0.f4;
+                l0.s0.f5 = r.s0.f5;
+                l0.s0.f6 = r.s0.f6;
+                l0.s1.tag = r.s1.tag;
+            }
             return l0;
             break;
         }
     }
-    l7.f0 = l21.f0;
-    l7.f1 = l21.f1;
-    l7.f2 = l21.f2;
-    l7.f3 = l21.f3;
-    l7.f4 = l21.f4;
-    l7.f5 = l21.f5;
-    l7.f6 = l21.f6;
-    l10 = l7.f0;
     l23 = (uint8_t *)&(*(uint8_t *)l2.p);
     l24.p = l23;
     l24.n = l2.n;
     l25 = (uint8_t *)&l6;
     l26.p = l25;
-    l26.n = l10;
+    l26.n = l11.s0.f0;
     block__put__copy(l24, UINT64_C(0), l26);
     l0.tag = UINT8_C(0);
-    l0.s0 = l7;
+    l0.s0.f0 = l11.s0.f0;
+    l0.s0.f1 = l11.s0.f1;
+    l0.s0.f2 = l11.s0.f2;
+    l0.s0.f3 = l11.s0.f3;
+    l0.s0.f4 = l11.s0.f4;
+    l0.s0.f5 = l11.s0.f5;
+    l0.s0.f6 = l11.s0.f6;
     return l0;
 }
 
@@ -19397,9 +18364,6 @@ static RT_HERE struct core__result__Result__Opened_Refusal seating__open_program
     struct core__result__Result__Opened_Refusal l0;
     struct rt_array_uint8_16 l4;
     struct rt_array_uint8_128 l5;
-    struct load__Loaded l6;
-    struct load__Loaded l7;
-    struct core__result__ErrResidual__Refusal l8;
     struct core__ops__ControlFlow__ErrResidual_Refusal_Loaded l9;
     struct core__result__Result__Loaded_Refusal l10;
     uint8_t *l11;
@@ -19410,7 +18374,6 @@ static RT_HERE struct core__result__Result__Opened_Refusal seating__open_program
     rt_slice l16;
     uint8_t *l17;
     rt_slice l18;
-    struct load__Loaded l19;
     struct rt_array_uint8_16 l20;
     struct rt_array_uint8_128 l21;
     struct seating__Opened l22;
@@ -19432,43 +18395,48 @@ static RT_HERE struct core__result__Result__Opened_Refusal seating__open_program
     l9 = core__result__ResultTry__branch__Loaded_Refusal(l10);
     switch (l9.tag) {
         case UINT8_C(0): {
-            l7.f0 = l9.s0.f0;
-            l7.f1 = l9.s0.f1;
-            l7.f2 = l9.s0.f2;
-            l7.f3 = l9.s0.f3;
-            l7.f4 = l9.s0.f4;
-            l7.f5 = l9.s0.f5;
-            l7.f6 = l9.s0.f6;
-            l19.f0 = l7.f0;
-            l19.f1 = l7.f1;
-            l19.f2 = l7.f2;
-            l19.f3 = l7.f3;
-            l19.f4 = l7.f4;
-            l19.f5 = l7.f5;
-            l19.f6 = l7.f6;
             break;
         }
         case UINT8_C(1): default: {
-            l8.f0 = l9.s1.f0;
-            l0 = core__result__ResultFromResidualErrResidual__from_resi_94ec4b81(l8);
+            {
+                struct core__result__Result__Opened_Refusal r = core__result__ResultFromResidualErrResidual__from_resi_94ec4b81(l9.s1);
+                l0.tag = r.tag;
+                l0.s0.f0.f0 = r.s0.f0.f0;
+                l0.s0.f0.f1 = r.s0.f0.f1;
+                l0.s0.f0.f2 = r.s0.f0.f2;
+                l0.s0.f0.f3 = r.s0.f0.f3;
+                l0.s0.f0.f4 = r.s0.f0.f4;
+                l0.s0.f0.f5 = r.s0.f0.f5;
+                l0.s0.f0.f6 = r.s0.f0.f6;
+                l0.s0.f1 = r.s0.f1;
+                l0.s0.f2 = r.s0.f2;
+                l0.s1.tag = r.s1.tag;
+            }
             return l0;
             break;
         }
     }
-    l6.f0 = l19.f0;
-    l6.f1 = l19.f1;
-    l6.f2 = l19.f2;
-    l6.f3 = l19.f3;
-    l6.f4 = l19.f4;
-    l6.f5 = l19.f5;
-    l6.f6 = l19.f6;
     l20 = l4;
     l21 = l5;
-    l22.f0 = l6;
+    l22.f0.f0 = l9.s0.f0;
+    l22.f0.f1 = l9.s0.f1;
+    l22.f0.f2 = l9.s0.f2;
+    l22.f0.f3 = l9.s0.f3;
+    l22.f0.f4 = l9.s0.f4;
+    l22.f0.f5 = l9.s0.f5;
+    l22.f0.f6 = l9.s0.f6;
     l22.f1 = l20;
     l22.f2 = l21;
     l0.tag = UINT8_C(0);
-    l0.s0 = l22;
+    l0.s0.f0.f0 = l22.f0.f0;
+    l0.s0.f0.f1 = l22.f0.f1;
+    l0.s0.f0.f2 = l22.f0.f2;
+    l0.s0.f0.f3 = l22.f0.f3;
+    l0.s0.f0.f4 = l22.f0.f4;
+    l0.s0.f0.f5 = l22.f0.f5;
+    l0.s0.f0.f6 = l22.f0.f6;
+    l0.s0.f1 = l22.f1;
+    l0.s0.f2 = l22.f2;
     return l0;
 }
 
@@ -19491,30 +18459,27 @@ static RT_HERE struct table_read__parameters__Parameters seating__parameters(uin
     l7 = (uint8_t *)&(*(struct seating__Opened *)l1).f2;
     l8.p = l7;
     l8.n = l6;
-    l0 = table_read__parameters__Parameters__new(l5, l8);
+    {
+        struct table_read__parameters__Parameters r = table_read__parameters__Parameters__new(l5, l8);
+        l0.f0 = r.f0;
+        l0.f1 = r.f1;
+    }
     return l0;
 }
 
 static RT_HERE struct core__result__Result__Seat_Refusal seating__seat_table(uint64_t l1, struct table_read__parameters__Parameters l2, rt_slice l3, rt_slice l4, rt_slice l5, rt_slice l6)
 {
     struct core__result__Result__Seat_Refusal l0;
-    uint64_t l7;
-    uint64_t l8;
-    struct core__result__ErrResidual__Refusal l9;
     struct layout__Numbers l10;
     struct core__ops__ControlFlow__ErrResidual_Refusal_u64 l11;
     struct core__result__Result__u64_Refusal l12;
-    struct table_read__parameters__Parameters l13;
     uint8_t *l14;
     rt_slice l15;
     uint8_t *l16;
     rt_slice l17;
     uint8_t *l18;
     rt_slice l19;
-    uint64_t l20;
     struct seating__Seat l21;
-    l13.f0 = l2.f0;
-    l13.f1 = l2.f1;
     l14 = (uint8_t *)&(*(uint8_t *)l4.p);
     l15.p = l14;
     l15.n = l4.n;
@@ -19524,71 +18489,79 @@ static RT_HERE struct core__result__Result__Seat_Refusal seating__seat_table(uin
     l18 = (uint8_t *)&(*(uint64_t *)l6.p);
     l19.p = l18;
     l19.n = l6.n;
-    l12 = table_read__read_image(l3, l13, l15, l17, l19);
+    l12 = table_read__read_image(l3, l2, l15, l17, l19);
     l11 = core__result__ResultTry__branch__u64_Refusal(l12);
     switch (l11.tag) {
         case UINT8_C(0): {
-            l8 = l11.s0;
-            l20 = l8;
             break;
         }
         case UINT8_C(1): default: {
-            l9.f0 = l11.s1.f0;
-            l0 = core__result__ResultFromResidualErrResidual__from_resi_865746fe(l9);
+            {
+                struct core__result__Result__Seat_Refusal r = core__result__ResultFromResidualErrResidual__from_resi_865746fe(l11.s1);
+                l0.tag = r.tag;
+                l0.s0.f0 = r.s0.f0;
+                l0.s0.f1.f0 = r.s0.f1.f0;
+                l0.s0.f1.f1 = r.s0.f1.f1;
+                l0.s0.f1.f2 = r.s0.f1.f2;
+                l0.s0.f1.f3 = r.s0.f1.f3;
+                l0.s0.f1.f4 = r.s0.f1.f4;
+                l0.s0.f1.f5 = r.s0.f1.f5;
+                l0.s0.f1.f6 = r.s0.f1.f6;
+                l0.s1.tag = r.s1.tag;
+            }
             return l0;
             break;
         }
     }
-    l7 = l20;
-    l10 = layout__fresh(l7);
+    l10 = layout__fresh(l11.s0);
     l21.f0 = l1;
-    l21.f1 = l10;
+    l21.f1.f0 = l10.f0;
+    l21.f1.f1 = l10.f1;
+    l21.f1.f2 = l10.f2;
+    l21.f1.f3 = l10.f3;
+    l21.f1.f4 = l10.f4;
+    l21.f1.f5 = l10.f5;
+    l21.f1.f6 = l10.f6;
     l0.tag = UINT8_C(0);
-    l0.s0 = l21;
+    l0.s0.f0 = l21.f0;
+    l0.s0.f1.f0 = l21.f1.f0;
+    l0.s0.f1.f1 = l21.f1.f1;
+    l0.s0.f1.f2 = l21.f1.f2;
+    l0.s0.f1.f3 = l21.f1.f3;
+    l0.s0.f1.f4 = l21.f1.f4;
+    l0.s0.f1.f5 = l21.f1.f5;
+    l0.s0.f1.f6 = l21.f1.f6;
     return l0;
 }
 
-static RT_HERE void std__slices__slice_T__copy_within__u64_Range_u64(rt_slice l1, struct core__iter__ranges__Range__u64 l2, uint64_t l3)
+static RT_WITHIN void std__slices__slice_T__copy_within__u64_Range_u64(rt_slice l1, struct core__iter__ranges__Range__u64 l2, uint64_t l3)
 {
-    uint64_t l4;
-    uint64_t l5;
     struct rt_tuple2__u64_u64 l6;
-    struct core__iter__ranges__Range__u64 l7;
-    uint64_t l8;
     uint8_t *l10;
     rt_slice l11;
-    l7.f0 = l2.f0;
-    l7.f1 = l2.f1;
-    l8 = l1.n;
-    l6 = std_alloc__part__AnySliceRange__within__Range_u64(l7, l8);
-    l4 = l6.f0;
-    l5 = l6.f1;
+    l6 = std_alloc__part__AnySliceRange__within__Range_u64(l2, l1.n);
     l10 = (uint8_t *)&(*(uint64_t *)l1.p);
     l11.p = l10;
     l11.n = l1.n;
-    std_alloc__shifts__shift__u64(l11, l4, l5, l3);
+    std_alloc__shifts__shift__u64(l11, l6.f0, l6.f1, l3);
     return;
 }
 
-static RT_HERE struct rt_tuple2__u64_u64 std_alloc__part__AnySliceRange__within__Range_u64(struct core__iter__ranges__Range__u64 l1, uint64_t l2)
+static RT_WITHIN struct rt_tuple2__u64_u64 std_alloc__part__AnySliceRange__within__Range_u64(struct core__iter__ranges__Range__u64 l1, uint64_t l2)
 {
     struct rt_tuple2__u64_u64 l0;
     struct core__iter__ranges__Range__u64 l3;
-    struct core__iter__ranges__Range__u64 l4;
     struct core__iter__ranges__RangeTo__u64 l5;
-    l4.f0 = l1.f0;
-    l4.f1 = l1.f1;
     l5.f0 = l2;
-    l3 = core__slice__ranges__range__Range_u64(l4, l5);
+    l3 = core__slice__ranges__range__Range_u64(l1, l5);
     l0.f0 = l3.f0;
     l0.f1 = l3.f1;
     return l0;
 }
 
-static RT_HERE void std_alloc__shifts__copy_down__u64(rt_slice l1, uint64_t l2, uint64_t l3, uint64_t l4)
+static RT_WITHIN void std_alloc__shifts__copy_down__u64(rt_slice l1, uint64_t l2, uint64_t l3, uint64_t l4)
 {
     uint64_t l5;
-    uint64_t l6;
     uint8_t l7;
     uint64_t l8;
     uint64_t l9;
@@ -19606,21 +18579,19 @@ static RT_HERE void std_alloc__shifts__copy_down__u64(rt_slice l1, uint64_t l2, 
         l9 = (uint64_t)((uint64_t)l8 * (uint64_t)UINT64_C(8));
         l10 = l1.p + (size_t)l9;
         l11 = (*(uint64_t *)l10);
-        l6 = l11;
         l8 = (uint64_t)((uint64_t)l3 + (uint64_t)l5);
         l9 = (uint64_t)((uint64_t)l8 * (uint64_t)UINT64_C(8));
         l12 = l1.p + (size_t)l9;
-        (*(uint64_t *)l12) = l6;
+        (*(uint64_t *)l12) = l11;
         l5 = (uint64_t)((uint64_t)l5 + (uint64_t)UINT64_C(1));
     }
 end1:;
     return;
 }
 
-static RT_HERE void std_alloc__shifts__copy_up__u64(rt_slice l1, uint64_t l2, uint64_t l3, uint64_t l4)
+static RT_WITHIN void std_alloc__shifts__copy_up__u64(rt_slice l1, uint64_t l2, uint64_t l3, uint64_t l4)
 {
     uint64_t l5;
-    uint64_t l6;
     uint8_t l7;
     uint64_t l8;
     uint64_t l9;
@@ -19639,17 +18610,16 @@ static RT_HERE void std_alloc__shifts__copy_up__u64(rt_slice l1, uint64_t l2, ui
         l9 = (uint64_t)((uint64_t)l8 * (uint64_t)UINT64_C(8));
         l10 = l1.p + (size_t)l9;
         l11 = (*(uint64_t *)l10);
-        l6 = l11;
         l8 = (uint64_t)((uint64_t)l3 + (uint64_t)l5);
         l9 = (uint64_t)((uint64_t)l8 * (uint64_t)UINT64_C(8));
         l12 = l1.p + (size_t)l9;
-        (*(uint64_t *)l12) = l6;
+        (*(uint64_t *)l12) = l11;
     }
 end1:;
     return;
 }
 
-static RT_HERE void std_alloc__shifts__shift__u64(rt_slice l1, uint64_t l2, uint64_t l3, uint64_t l4)
+static RT_WITHIN void std_alloc__shifts__shift__u64(rt_slice l1, uint64_t l2, uint64_t l3, uint64_t l4)
 {
     uint8_t l5;
     uint8_t *l7;
@@ -19718,7 +18688,6 @@ static inline uint64_t step_lines__step(rt_slice l1, struct directory__Row l2, r
     uint8_t *l13;
     uint64_t l14;
     uint8_t *l15;
-    uint64_t l16;
     uint8_t l17;
     uint64_t l18;
     uint8_t *l19;
@@ -19739,9 +18708,8 @@ static inline uint64_t step_lines__step(rt_slice l1, struct directory__Row l2, r
     l6.n = l14;
     l7 = l4;
     l8 = UINT64_C(0);
-    l16 = l6.n;
     for (;;) {
-        l17 = (uint8_t)(l8 < l16);
+        l17 = (uint8_t)(l8 < l6.n);
         if (l17) {
         } else {
             goto end2;
@@ -19772,9 +18740,6 @@ static RT_APART struct step_part__Spot step_part__locate(rt_slice l1, uint8_t l2
     struct rt_array_uint8_128 l6;
     struct rt_array_uint16_512 l7;
     struct core__result__Result__Loaded_Refusal l8;
-    struct load__Loaded l9;
-    struct load__Loaded l10;
-    struct types__refusal__Refusal l11;
     uint8_t *l12;
     rt_slice l13;
     uint8_t *l14;
@@ -19783,7 +18748,6 @@ static RT_APART struct step_part__Spot step_part__locate(rt_slice l1, uint8_t l2
     rt_slice l17;
     uint8_t *l18;
     rt_slice l19;
-    struct load__Loaded l20;
     uint8_t l21;
     struct core__option__Option__Row l22;
     uint8_t *l23;
@@ -19807,42 +18771,30 @@ static RT_APART struct step_part__Spot step_part__locate(rt_slice l1, uint8_t l2
     l8 = load__program(l1, l13, l15, l17, l19);
     switch (l8.tag) {
         case UINT8_C(0): {
-            l10.f0 = l8.s0.f0;
-            l10.f1 = l8.s0.f1;
-            l10.f2 = l8.s0.f2;
-            l10.f3 = l8.s0.f3;
-            l10.f4 = l8.s0.f4;
-            l10.f5 = l8.s0.f5;
-            l10.f6 = l8.s0.f6;
-            l20.f0 = l10.f0;
-            l20.f1 = l10.f1;
-            l20.f2 = l10.f2;
-            l20.f3 = l10.f3;
-            l20.f4 = l10.f4;
-            l20.f5 = l10.f5;
-            l20.f6 = l10.f6;
             break;
         }
         case UINT8_C(1): default: {
-            l11 = l8.s1;
-            l21 = types__refusal__U8FromRefusal__from(l11);
-            l0 = step_part__nowhere(l21);
+            l21 = types__refusal__U8FromRefusal__from(l8.s1);
+            {
+                struct step_part__Spot r = step_part__nowhere(l21);
+                l0.f0 = r.f0;
+                l0.f1 = r.f1;
+                l0.f2 = r.f2;
+            }
             return l0;
             break;
         }
     }
-    l9.f0 = l20.f0;
-    l9.f1 = l20.f1;
-    l9.f2 = l20.f2;
-    l9.f3 = l20.f3;
-    l9.f4 = l20.f4;
-    l9.f5 = l20.f5;
-    l9.f6 = l20.f6;
     l23 = (uint8_t *)&l7;
     l24.p = l23;
     l24.n = UINT64_C(512);
-    l22 = directory__rows__find(l24, l9.f4, l2, l3);
-    l0 = step_part__spotted(l22);
+    l22 = directory__rows__find(l24, l8.s0.f4, l2, l3);
+    {
+        struct step_part__Spot r = step_part__spotted(l22);
+        l0.f0 = r.f0;
+        l0.f1 = r.f1;
+        l0.f2 = r.f2;
+    }
     return l0;
 }
 
@@ -19858,25 +18810,25 @@ static RT_HERE struct step_part__Spot step_part__nowhere(uint8_t l1)
 static RT_HERE struct step_part__Spot step_part__spotted(struct core__option__Option__Row l1)
 {
     struct step_part__Spot l0;
-    struct directory__Row l2;
     uint64_t l3;
     uint64_t l4;
     switch (l1.tag) {
         case UINT8_C(1): {
-            l2.f0 = l1.s0.f0;
-            l2.f1 = l1.s0.f1;
-            l2.f2 = l1.s0.f2;
-            l2.f3 = l1.s0.f3;
             break;
         }
         case UINT8_C(0): default: {
-            l0 = step_part__nowhere(UINT8_C(0));
+            {
+                struct step_part__Spot r = step_part__nowhere(UINT8_C(0));
+                l0.f0 = r.f0;
+                l0.f1 = r.f1;
+                l0.f2 = r.f2;
+            }
             return l0;
             break;
         }
     }
-    l3 = core__convert__UsizeFromU16__from(l2.f2);
-    l4 = core__convert__UsizeFromU16__from(l2.f3);
+    l3 = core__convert__UsizeFromU16__from(l1.s0.f2);
+    l4 = core__convert__UsizeFromU16__from(l1.s0.f3);
     l0.f0 = UINT8_C(0);
     l0.f1 = l3;
     l0.f2 = l4;
@@ -19888,7 +18840,6 @@ static RT_HERE struct step_part__Spot step_part__step_place(rt_slice l1, rt_slic
     struct step_part__Spot l0;
     struct step_part__Spot l5;
     uint8_t l6;
-    uint64_t l7;
     l5 = step_part__locate(l1, l3, l4);
     l6 = (uint8_t)(l5.f0 != UINT8_C(0));
     if (l6) {
@@ -19897,10 +18848,14 @@ static RT_HERE struct step_part__Spot step_part__step_place(rt_slice l1, rt_slic
         l0.f2 = l5.f2;
         return l0;
     }
-    l7 = l2.n;
-    l6 = (uint8_t)(l7 < UINT64_C(1024));
+    l6 = (uint8_t)(l2.n < UINT64_C(1024));
     if (l6) {
-        l0 = step_part__nowhere(UINT8_C(13));
+        {
+            struct step_part__Spot r = step_part__nowhere(UINT8_C(13));
+            l0.f0 = r.f0;
+            l0.f1 = r.f1;
+            l0.f2 = r.f2;
+        }
         return l0;
     }
     l0.f0 = l5.f0;
@@ -19912,86 +18867,65 @@ static RT_HERE struct step_part__Spot step_part__step_place(rt_slice l1, rt_slic
 static RT_HERE struct core__result__Result__u64_Refusal table_read__behind(rt_slice l1, struct table_read__parameters__Parameters l2, uint64_t l3, rt_slice l4, rt_slice l5)
 {
     struct core__result__Result__u64_Refusal l0;
-    uint64_t l6;
-    uint64_t l7;
-    uint64_t l8;
-    struct core__result__ErrResidual__Refusal l9;
     uint64_t l10;
-    struct table_read__parameters__Parameters l12;
     uint8_t *l13;
     rt_slice l14;
     uint8_t *l15;
     rt_slice l16;
     struct core__ops__ControlFlow__ErrResidual_Refusal_u64 l17;
     struct core__result__Result__u64_Refusal l18;
-    struct table_read__parameters__Parameters l19;
     uint8_t *l20;
     rt_slice l21;
     uint8_t *l22;
     rt_slice l23;
-    uint64_t l24;
-    uint64_t l25;
     uint8_t l26;
     struct types__refusal__Refusal l27;
-    struct table_read__parameters__Parameters l28;
     uint8_t *l29;
     rt_slice l30;
     uint8_t *l31;
     rt_slice l32;
     uint8_t l33;
     struct types__refusal__Refusal l34;
-    l6 = l2.f0.n;
-    l12.f0 = l2.f0;
-    l12.f1 = l2.f1;
     l13 = (uint8_t *)&(*(uint16_t *)l4.p);
     l14.p = l13;
     l14.n = l4.n;
     l15 = (uint8_t *)&(*(uint64_t *)l5.p);
     l16.p = l15;
     l16.n = l5.n;
-    table_read__nulls__nulls(l12, l14, l16);
-    l19.f0 = l2.f0;
-    l19.f1 = l2.f1;
+    table_read__nulls__nulls(l2, l14, l16);
     l20 = (uint8_t *)&(*(uint16_t *)l4.p);
     l21.p = l20;
     l21.n = l4.n;
     l22 = (uint8_t *)&(*(uint64_t *)l5.p);
     l23.p = l22;
     l23.n = l5.n;
-    l18 = table_read__reading__records(l1, l19, l3, UINT64_C(2), l21, l23);
+    l18 = table_read__reading__records(l1, l2, l3, UINT64_C(2), l21, l23);
     l17 = core__result__ResultTry__branch__u64_Refusal(l18);
     switch (l17.tag) {
         case UINT8_C(0): {
-            l8 = l17.s0;
-            l24 = l8;
             break;
         }
         case UINT8_C(1): default: {
-            l9.f0 = l17.s1.f0;
-            l0 = core__result__ResultFromResidualErrResidual__from_resi_f9cf8d89(l9);
+            l0 = core__result__ResultFromResidualErrResidual__from_resi_f9cf8d89(l17.s1);
             return l0;
             break;
         }
     }
-    l7 = l24;
-    l25 = l1.n;
-    l26 = (uint8_t)(l7 < l25);
+    l26 = (uint8_t)(l17.s0 < l1.n);
     if (l26) {
         l27.tag = UINT8_C(10);
         l0.tag = UINT8_C(1);
         l0.s1 = l27;
         return l0;
     }
-    l10 = (uint64_t)((uint64_t)l6 + (uint64_t)l3);
-    l28.f0 = l2.f0;
-    l28.f1 = l2.f1;
+    l10 = (uint64_t)((uint64_t)l2.f0.n + (uint64_t)l3);
     l29 = (uint8_t *)&(*(uint16_t *)l4.p);
     l30.p = l29;
     l30.n = l4.n;
     l31 = (uint8_t *)&(*(uint64_t *)l5.p);
     l32.p = l31;
     l32.n = l5.n;
-    l26 = table_read__refer__rows_refer(l28, l30, l32, l6, l10);
+    l26 = table_read__refer__rows_refer(l2, l30, l32, l2.f0.n, l10);
     l33 = (uint8_t)!l26;
     if (l33) {
         l34.tag = UINT8_C(11);
@@ -20049,44 +18983,36 @@ static inline uint64_t table_read__nulls__null_cell(uint8_t l1)
 
 static inline void table_read__nulls__nulls(struct table_read__parameters__Parameters l1, rt_slice l2, rt_slice l3)
 {
-    rt_slice l4;
     uint64_t l5;
     uint8_t *l6;
     rt_slice l7;
-    rt_slice l8;
     uint8_t *l9;
-    uint64_t l10;
     uint8_t l11;
     uint8_t *l12;
     uint8_t *l14;
     rt_slice l15;
-    rt_slice l16;
     uint64_t l17;
     uint64_t l18;
     uint8_t l19;
     uint8_t *l20;
     rt_slice l21;
     uint64_t l22;
-    l8 = l1.f0;
-    l9 = (uint8_t *)&(*(uint8_t *)l8.p);
+    l9 = (uint8_t *)&(*(uint8_t *)l1.f0.p);
     l7.p = l9;
-    l7.n = l8.n;
-    l4 = l7;
+    l7.n = l1.f0.n;
     l5 = UINT64_C(0);
-    l10 = l4.n;
     for (;;) {
-        l11 = (uint8_t)(l5 < l10);
+        l11 = (uint8_t)(l5 < l7.n);
         if (l11) {
         } else {
             goto end1;
         }
-        l12 = l4.p + (size_t)l5;
+        l12 = l7.p + (size_t)l5;
         l6 = (uint8_t *)&(*(uint8_t *)l12);
         l14 = (uint8_t *)&(*(uint16_t *)l2.p);
         l15.p = l14;
         l15.n = l2.n;
         layout__seat(l15, l5, l5);
-        l16 = l1.f1;
         l17 = (uint64_t)((uint64_t)UINT64_C(8) * (uint64_t)l5);
         l19 = (*(uint8_t *)l6);
         l18 = little_endian__index(l19);
@@ -20094,7 +19020,7 @@ static inline void table_read__nulls__nulls(struct table_read__parameters__Param
         l21.p = l20;
         l21.n = l3.n;
         l22 = (uint64_t)((uint64_t)UINT64_C(32) * (uint64_t)l5);
-        table_read__nulls__defaults(l16, l17, l18, l21, l22);
+        table_read__nulls__defaults(l1.f1, l17, l18, l21, l22);
         l5 = (uint64_t)((uint64_t)l5 + (uint64_t)UINT64_C(1));
     }
 end1:;
@@ -20112,59 +19038,43 @@ static RT_HERE struct table_read__parameters__Parameters table_read__parameters_
 static RT_HERE struct core__result__Result__u64_Refusal table_read__read(rt_slice l1, struct table_read__parameters__Parameters l2, rt_slice l3, rt_slice l4)
 {
     struct core__result__Result__u64_Refusal l0;
-    uint64_t l5;
-    uint64_t l6;
-    struct core__result__ErrResidual__Refusal l7;
     struct core__ops__ControlFlow__ErrResidual_Refusal_u64 l8;
     struct core__result__Result__u64_Refusal l9;
-    uint64_t l10;
-    uint64_t l11;
-    struct table_read__parameters__Parameters l12;
     uint8_t *l13;
     rt_slice l14;
     uint8_t *l15;
     rt_slice l16;
-    l10 = l2.f0.n;
-    l9 = table_read__reading__count(l1, l10);
+    l9 = table_read__reading__count(l1, l2.f0.n);
     l8 = core__result__ResultTry__branch__u64_Refusal(l9);
     switch (l8.tag) {
         case UINT8_C(0): {
-            l6 = l8.s0;
-            l11 = l6;
             break;
         }
         case UINT8_C(1): default: {
-            l7.f0 = l8.s1.f0;
-            l0 = core__result__ResultFromResidualErrResidual__from_resi_f9cf8d89(l7);
+            l0 = core__result__ResultFromResidualErrResidual__from_resi_f9cf8d89(l8.s1);
             return l0;
             break;
         }
     }
-    l5 = l11;
-    l12.f0 = l2.f0;
-    l12.f1 = l2.f1;
     l13 = (uint8_t *)&(*(uint16_t *)l3.p);
     l14.p = l13;
     l14.n = l3.n;
     l15 = (uint8_t *)&(*(uint64_t *)l4.p);
     l16.p = l15;
     l16.n = l4.n;
-    l0 = table_read__behind(l1, l12, l5, l14, l16);
+    l0 = table_read__behind(l1, l2, l8.s0, l14, l16);
     return l0;
 }
 
 static RT_HERE struct core__result__Result__u64_Refusal table_read__read_image(rt_slice l1, struct table_read__parameters__Parameters l2, rt_slice l3, rt_slice l4, rt_slice l5)
 {
     struct core__result__Result__u64_Refusal l0;
-    uint64_t l6;
-    struct block__Fault l7;
     struct core__result__Result__u64_Fault l8;
     uint8_t *l9;
     rt_slice l10;
     struct core__result__Result__u64_Refusal l11;
     uint8_t *l12;
     rt_slice l13;
-    struct table_read__parameters__Parameters l14;
     uint8_t *l15;
     rt_slice l16;
     uint8_t *l17;
@@ -20176,24 +19086,20 @@ static RT_HERE struct core__result__Result__u64_Refusal table_read__read_image(r
     l8 = blocks__open_image(l1, UINT64_C(17), l10);
     switch (l8.tag) {
         case UINT8_C(0): {
-            l6 = l8.s0;
             l12 = (uint8_t *)&(*(uint8_t *)l3.p);
             l13.p = l12;
-            l13.n = l6;
-            l14.f0 = l2.f0;
-            l14.f1 = l2.f1;
+            l13.n = l8.s0;
             l15 = (uint8_t *)&(*(uint16_t *)l4.p);
             l16.p = l15;
             l16.n = l4.n;
             l17 = (uint8_t *)&(*(uint64_t *)l5.p);
             l18.p = l17;
             l18.n = l5.n;
-            l11 = table_read__read(l13, l14, l16, l18);
+            l11 = table_read__read(l13, l2, l16, l18);
             break;
         }
         case UINT8_C(1): default: {
-            l7 = l8.s1;
-            l19 = blocks__table_number(l7);
+            l19 = blocks__table_number(l8.s1);
             l11.tag = UINT8_C(1);
             l11.s1 = l19;
             break;
@@ -20258,7 +19164,6 @@ static RT_HERE struct core__result__Result__u64_Refusal table_read__reading__one
     struct types__refusal__Refusal l13;
     uint8_t *l15;
     rt_slice l16;
-    rt_slice l17;
     uint64_t l18;
     uint8_t *l19;
     uint64_t l20;
@@ -20288,7 +19193,6 @@ static RT_HERE struct core__result__Result__u64_Refusal table_read__reading__one
     l16.p = l15;
     l16.n = l4.n;
     layout__seat(l16, l6, l7);
-    l17 = l2.f1;
     l8 = (uint64_t)((uint64_t)UINT64_C(8) * (uint64_t)l7);
     l19 = l2.f0.p + (size_t)l7;
     l12 = (*(uint8_t *)l19);
@@ -20298,7 +19202,7 @@ static RT_HERE struct core__result__Result__u64_Refusal table_read__reading__one
     l22.p = l21;
     l22.n = l5.n;
     l23 = (uint64_t)((uint64_t)UINT64_C(32) * (uint64_t)l6);
-    l0 = table_read__reading__values(l1, l17, l8, l18, l20, l22, l23);
+    l0 = table_read__reading__values(l1, l2.f1, l8, l18, l20, l22, l23);
     return l0;
 }
 
@@ -20307,19 +19211,14 @@ static RT_HERE struct core__result__Result__u64_Refusal table_read__reading__rec
     struct core__result__Result__u64_Refusal l0;
     uint64_t l7;
     uint64_t l8;
-    uint64_t l9;
-    struct core__result__ErrResidual__Refusal l10;
     uint8_t l11;
     struct core__ops__ControlFlow__ErrResidual_Refusal_u64 l12;
     struct core__result__Result__u64_Refusal l13;
-    struct table_read__parameters__Parameters l14;
     uint8_t *l15;
     rt_slice l16;
     uint8_t *l17;
     rt_slice l18;
-    uint64_t l19;
     uint64_t l20;
-    uint64_t l21;
     l7 = l4;
     l8 = UINT64_C(0);
     for (;;) {
@@ -20328,32 +19227,26 @@ static RT_HERE struct core__result__Result__u64_Refusal table_read__reading__rec
         } else {
             goto end1;
         }
-        l14.f0 = l2.f0;
-        l14.f1 = l2.f1;
         l15 = (uint8_t *)&(*(uint16_t *)l5.p);
         l16.p = l15;
         l16.n = l5.n;
         l17 = (uint8_t *)&(*(uint64_t *)l6.p);
         l18.p = l17;
         l18.n = l6.n;
-        l19 = l2.f0.n;
-        l20 = (uint64_t)((uint64_t)l19 + (uint64_t)l8);
-        l13 = table_read__reading__one_record(l1, l14, l7, l16, l18, l20);
+        l20 = (uint64_t)((uint64_t)l2.f0.n + (uint64_t)l8);
+        l13 = table_read__reading__one_record(l1, l2, l7, l16, l18, l20);
         l12 = core__result__ResultTry__branch__u64_Refusal(l13);
         switch (l12.tag) {
             case UINT8_C(0): {
-                l9 = l12.s0;
-                l21 = l9;
                 break;
             }
             case UINT8_C(1): default: {
-                l10.f0 = l12.s1.f0;
-                l0 = core__result__ResultFromResidualErrResidual__from_resi_f9cf8d89(l10);
+                l0 = core__result__ResultFromResidualErrResidual__from_resi_f9cf8d89(l12.s1);
                 return l0;
                 break;
             }
         }
-        l7 = l21;
+        l7 = l12.s0;
         l8 = (uint64_t)((uint64_t)l8 + (uint64_t)UINT64_C(1));
     }
 end1:;
@@ -20407,8 +19300,6 @@ static RT_HERE struct core__result__Result__u64_Refusal table_read__reading__val
     struct core__result__Result__u64_Refusal l0;
     uint64_t l8;
     uint64_t l9;
-    uint64_t l10;
-    struct core__result__ErrResidual__Refusal l11;
     uint8_t l12;
     struct core__ops__ControlFlow__ErrResidual_Refusal_u64 l13;
     struct core__result__Result__u64_Refusal l14;
@@ -20418,7 +19309,6 @@ static RT_HERE struct core__result__Result__u64_Refusal table_read__reading__val
     uint8_t *l18;
     rt_slice l19;
     uint64_t l20;
-    uint64_t l21;
     l8 = l5;
     l9 = UINT64_C(0);
     for (;;) {
@@ -20438,18 +19328,15 @@ static RT_HERE struct core__result__Result__u64_Refusal table_read__reading__val
         l13 = core__result__ResultTry__branch__u64_Refusal(l14);
         switch (l13.tag) {
             case UINT8_C(0): {
-                l10 = l13.s0;
-                l21 = l10;
                 break;
             }
             case UINT8_C(1): default: {
-                l11.f0 = l13.s1.f0;
-                l0 = core__result__ResultFromResidualErrResidual__from_resi_f9cf8d89(l11);
+                l0 = core__result__ResultFromResidualErrResidual__from_resi_f9cf8d89(l13.s1);
                 return l0;
                 break;
             }
         }
-        l8 = l21;
+        l8 = l13.s0;
         l9 = (uint64_t)((uint64_t)l9 + (uint64_t)UINT64_C(1));
     }
 end1:;
@@ -20461,7 +19348,6 @@ end1:;
 static inline uint8_t table_read__refer__cell_refers(rt_slice l1, uint64_t l2, uint8_t l3, uint64_t l4)
 {
     uint8_t l0;
-    uint64_t l5;
     uint64_t l6;
     uint8_t l7;
     uint8_t l8;
@@ -20470,14 +19356,13 @@ static inline uint8_t table_read__refer__cell_refers(rt_slice l1, uint64_t l2, u
     uint64_t l11;
     uint8_t l12;
     l6 = layout__operand(l4);
-    l5 = l6;
     l8 = types__is_reference(l3);
     l7 = (uint8_t)!l8;
     if (l7) {
     } else {
-        l9 = (uint8_t)(l5 < l2);
+        l9 = (uint8_t)(l6 < l2);
         if (l9) {
-            l10 = layout__head(l1, l5, UINT64_C(0));
+            l10 = layout__head(l1, l6, UINT64_C(0));
             l12 = types__struct_of(l3);
             l11 = little_endian__index(l12);
             l9 = (uint8_t)(l10 == l11);
@@ -20539,7 +19424,6 @@ static inline uint8_t table_read__refer__rows_refer(struct table_read__parameter
     uint8_t l11;
     uint8_t *l12;
     uint8_t l13;
-    rt_slice l14;
     uint8_t l15;
     l6 = l4;
     for (;;) {
@@ -20554,8 +19438,7 @@ static inline uint8_t table_read__refer__rows_refer(struct table_read__parameter
         l8 = little_endian__index(l13);
         l9 = (uint64_t)((uint64_t)UINT64_C(8) * (uint64_t)l7);
         l10 = (uint64_t)((uint64_t)UINT64_C(32) * (uint64_t)l6);
-        l14 = l1.f1;
-        l11 = table_read__refer__row_refers(l2, l5, l14, l9, l3, l10, l8);
+        l11 = table_read__refer__row_refers(l2, l5, l1.f1, l9, l3, l10, l8);
         l15 = (uint8_t)!l11;
         if (l15) {
             l0 = 0;
@@ -20573,7 +19456,6 @@ static inline uint64_t table_write__write(rt_slice l1, rt_slice l2, rt_slice l3,
     uint64_t l0;
     uint64_t l7;
     struct core__result__Result__u64_WriteError l8;
-    uint64_t l9;
     uint8_t *l10;
     rt_slice l11;
     uint8_t *l12;
@@ -20593,7 +19475,6 @@ static inline uint64_t table_write__write(rt_slice l1, rt_slice l2, rt_slice l3,
     l8 = blocks__write_image(l13, UINT64_C(17), l15);
     switch (l8.tag) {
         case UINT8_C(0): {
-            l9 = l8.s0;
             break;
         }
         case UINT8_C(1): default: {
@@ -20602,7 +19483,7 @@ static inline uint64_t table_write__write(rt_slice l1, rt_slice l2, rt_slice l3,
             break;
         }
     }
-    l0 = l9;
+    l0 = l8.s0;
     return l0;
 }
 
@@ -20654,22 +19535,20 @@ end1:;
 static inline uint64_t table_write__writing__stream(rt_slice l1, rt_slice l2, rt_slice l3, uint64_t l4, rt_slice l5)
 {
     uint64_t l0;
-    uint64_t l6;
     uint8_t *l8;
     rt_slice l9;
     uint64_t l10;
     uint8_t *l11;
     rt_slice l12;
-    l6 = l1.n;
     l8 = (uint8_t *)&(*(uint8_t *)l5.p);
     l9.p = l8;
     l9.n = l5.n;
-    l10 = (uint64_t)((uint64_t)l4 - (uint64_t)l6);
+    l10 = (uint64_t)((uint64_t)l4 - (uint64_t)l1.n);
     little_endian__put_pair(l9, UINT64_C(0), l10);
     l11 = (uint8_t *)&(*(uint8_t *)l5.p);
     l12.p = l11;
     l12.n = l5.n;
-    l0 = table_write__writing__instances(l12, UINT64_C(2), l1, l2, l3, l6, l4);
+    l0 = table_write__writing__instances(l12, UINT64_C(2), l1, l2, l3, l1.n, l4);
     return l0;
 }
 
@@ -20732,7 +19611,6 @@ static inline uint64_t text__command(rt_slice l1, uint64_t l2, uint64_t l3)
 {
     uint64_t l0;
     uint64_t l4;
-    struct commands__kind__Kind l5;
     struct core__result__Result__Kind_UnknownKind l6;
     uint64_t l7;
     uint8_t *l8;
@@ -20785,7 +19663,6 @@ static inline uint64_t text__command(rt_slice l1, uint64_t l2, uint64_t l3)
     l6 = commands__kind__KindTryFromU64__try_from(l7);
     switch (l6.tag) {
         case UINT8_C(0): {
-            l5 = l6.s0;
             break;
         }
         case UINT8_C(1): default: {
@@ -20801,7 +19678,7 @@ static inline uint64_t text__command(rt_slice l1, uint64_t l2, uint64_t l3)
             break;
         }
     }
-    switch (l5.tag) {
+    switch (l6.s0.tag) {
         case UINT8_C(0): {
             l14 = (uint8_t *)&(*(uint8_t *)l1.p);
             l15.p = l14;
@@ -21051,7 +19928,6 @@ static inline uint64_t text__lines__row(rt_slice l1, uint64_t l2, rt_slice l3, r
     uint64_t l8;
     uint8_t *l9;
     rt_slice l10;
-    uint64_t l11;
     uint8_t l12;
     uint64_t l13;
     uint8_t *l14;
@@ -21067,9 +19943,8 @@ static inline uint64_t text__lines__row(rt_slice l1, uint64_t l2, rt_slice l3, r
     l10.n = l1.n;
     l5 = text__put(l10, l2, l3);
     l6 = UINT64_C(0);
-    l11 = l4.n;
     for (;;) {
-        l12 = (uint8_t)(l6 < l11);
+        l12 = (uint8_t)(l6 < l4.n);
         if (l12) {
         } else {
             goto end2;
@@ -21203,7 +20078,6 @@ end1:;
 static RT_APART uint64_t text_place__place(rt_slice l1)
 {
     uint64_t l0;
-    uint64_t l2;
     struct rt_array_uint8_65536 l3;
     struct rt_array_uint8_65537 l4;
     uint8_t l5;
@@ -21211,8 +20085,7 @@ static RT_APART uint64_t text_place__place(rt_slice l1)
     rt_slice l7;
     uint8_t *l8;
     rt_slice l9;
-    l2 = l1.n;
-    l5 = (uint8_t)(UINT64_C(65536) < l2);
+    l5 = (uint8_t)(UINT64_C(65536) < l1.n);
     if (l5) {
         l0 = UINT64_C(65536);
         return l0;
@@ -21221,7 +20094,7 @@ static RT_APART uint64_t text_place__place(rt_slice l1)
     memset(&l4, 0, sizeof l4);
     l6 = (uint8_t *)&l3;
     l7.p = l6;
-    l7.n = l2;
+    l7.n = l1.n;
     l8 = (uint8_t *)&l4;
     l9.p = l8;
     l9.n = UINT64_C(65537);
@@ -21293,7 +20166,6 @@ static inline uint64_t text_place__stuck(rt_slice l1, rt_slice l2)
     struct derive__Mark l3;
     uint64_t l4;
     uint8_t *l5;
-    uint64_t l6;
     uint8_t l7;
     uint8_t *l8;
     uint8_t l9;
@@ -21305,9 +20177,8 @@ static inline uint64_t text_place__stuck(rt_slice l1, rt_slice l2)
     l3.f0 = UINT8_C(1);
     l3.f1 = UINT64_C(0);
     l4 = UINT64_C(0);
-    l6 = l1.n;
     for (;;) {
-        l7 = (uint8_t)(l4 < l6);
+        l7 = (uint8_t)(l4 < l1.n);
         if (l7) {
         } else {
             goto end2;
@@ -21339,7 +20210,6 @@ static inline uint64_t text_place__unmarked(rt_slice l1)
 {
     uint64_t l0;
     uint64_t l2;
-    uint64_t l3;
     struct core__option__Option__rt_tuple2_u8_u64 l4;
     uint8_t *l5;
     uint64_t l6;
@@ -21356,8 +20226,7 @@ static inline uint64_t text_place__unmarked(rt_slice l1)
         l4 = lexer__token(l8);
         switch (l4.tag) {
             case UINT8_C(1): {
-                l3 = l4.s0.f1;
-                l9 = (uint64_t)((uint64_t)l3 + (uint64_t)UINT64_C(1));
+                l9 = (uint64_t)((uint64_t)l4.s0.f1 + (uint64_t)UINT64_C(1));
                 l2 = (uint64_t)((uint64_t)l2 + (uint64_t)l9);
                 break;
             }
@@ -21377,7 +20246,6 @@ static RT_APART uint64_t text_place__unnamed(rt_slice l1, rt_slice l2, rt_slice 
     uint64_t l0;
     struct rt_array_uint8_65536 l4;
     struct rt_array_uint64_323 l5;
-    struct uses__NoProgram l6;
     struct core__result__Result__u64_NoProgram l7;
     uint8_t *l8;
     rt_slice l9;
@@ -21404,8 +20272,7 @@ static RT_APART uint64_t text_place__unnamed(rt_slice l1, rt_slice l2, rt_slice 
             break;
         }
         case UINT8_C(1): default: {
-            l6.f0 = l7.s1.f0;
-            l14 = l6.f0;
+            l14 = l7.s1.f0;
             break;
         }
     }
@@ -21419,21 +20286,15 @@ static RT_APART struct trace_images__Traced trace_images__begun(uint8_t *l1, rt_
     struct table_read__parameters__Parameters l8;
     struct rt_array_uint16_1536 l9;
     struct rt_array_uint64_8192 l10;
-    struct seating__Seat l11;
-    struct seating__Seat l12;
-    struct types__refusal__Refusal l13;
     struct seating__Opened l14;
     struct trace_images__telling__Start l15;
     struct trace_images__telling__Telling l16;
-    struct trace_lines__Coming l17;
     struct core__result__Result__Seat_Refusal l18;
     uint64_t l19;
-    struct table_read__parameters__Parameters l20;
     uint8_t *l21;
     rt_slice l22;
     uint8_t *l23;
     rt_slice l24;
-    struct seating__Seat l25;
     uint8_t l26;
     uint8_t *l27;
     rt_slice l28;
@@ -21448,61 +20309,39 @@ static RT_APART struct trace_images__Traced trace_images__begun(uint8_t *l1, rt_
     rt_slice l37;
     uint8_t *l38;
     rt_slice l39;
-    struct trace_images__pages__Page l40;
     uint8_t *l41;
     rt_slice l42;
     l8 = seating__parameters(l1);
     memset(&l9, 0, sizeof l9);
     memset(&l10, 0, sizeof l10);
     l19 = (*(struct seating__Opened *)l1).f0.f1;
-    l20.f0 = l8.f0;
-    l20.f1 = l8.f1;
     l21 = (uint8_t *)&l9;
     l22.p = l21;
     l22.n = UINT64_C(1536);
     l23 = (uint8_t *)&l10;
     l24.p = l23;
     l24.n = UINT64_C(8192);
-    l18 = trace_images__seated(l19, l20, l4, l22, l24);
+    l18 = trace_images__seated(l19, l8, l4, l22, l24);
     switch (l18.tag) {
         case UINT8_C(0): {
-            l12.f0 = l18.s0.f0;
-            l12.f1.f0 = l18.s0.f1.f0;
-            l12.f1.f1 = l18.s0.f1.f1;
-            l12.f1.f2 = l18.s0.f1.f2;
-            l12.f1.f3 = l18.s0.f1.f3;
-            l12.f1.f4 = l18.s0.f1.f4;
-            l12.f1.f5 = l18.s0.f1.f5;
-            l12.f1.f6 = l18.s0.f1.f6;
-            l25.f0 = l12.f0;
-            l25.f1.f0 = l12.f1.f0;
-            l25.f1.f1 = l12.f1.f1;
-            l25.f1.f2 = l12.f1.f2;
-            l25.f1.f3 = l12.f1.f3;
-            l25.f1.f4 = l12.f1.f4;
-            l25.f1.f5 = l12.f1.f5;
-            l25.f1.f6 = l12.f1.f6;
             break;
         }
         case UINT8_C(1): default: {
-            l13 = l18.s1;
-            l26 = types__refusal__U8FromRefusal__from(l13);
+            l26 = types__refusal__U8FromRefusal__from(l18.s1);
             l27 = (uint8_t *)&(*(uint8_t *)l7.p);
             l28.p = l27;
             l28.n = l7.n;
-            l0 = trace_images__pages__refused(l26, l6, l28);
+            {
+                struct trace_images__Traced r = trace_images__pages__refused(l26, l6, l28);
+                l0.f0 = r.f0;
+                l0.f1 = r.f1;
+                l0.f2 = r.f2;
+                l0.f3 = r.f3;
+            }
             return l0;
             break;
         }
     }
-    l11.f0 = l25.f0;
-    l11.f1.f0 = l25.f1.f0;
-    l11.f1.f1 = l25.f1.f1;
-    l11.f1.f2 = l25.f1.f2;
-    l11.f1.f3 = l25.f1.f3;
-    l11.f1.f4 = l25.f1.f4;
-    l11.f1.f5 = l25.f1.f5;
-    l11.f1.f6 = l25.f1.f6;
     l19 = l5.n;
     l29 = (uint8_t)(UINT64_C(65536) < l19);
     if (l29) {
@@ -21511,7 +20350,13 @@ static RT_APART struct trace_images__Traced trace_images__begun(uint8_t *l1, rt_
         l32 = (uint8_t *)&(*(uint8_t *)l7.p);
         l33.p = l32;
         l33.n = l7.n;
-        l0 = trace_images__pages__refused(l30, l6, l33);
+        {
+            struct trace_images__Traced r = trace_images__pages__refused(l30, l6, l33);
+            l0.f0 = r.f0;
+            l0.f1 = r.f1;
+            l0.f2 = r.f2;
+            l0.f3 = r.f3;
+        }
         return l0;
     }
     l14.f0.f0 = (*(struct seating__Opened *)l1).f0.f0;
@@ -21523,8 +20368,23 @@ static RT_APART struct trace_images__Traced trace_images__begun(uint8_t *l1, rt_
     l14.f0.f6 = (*(struct seating__Opened *)l1).f0.f6;
     l14.f1 = (*(struct seating__Opened *)l1).f1;
     l14.f2 = (*(struct seating__Opened *)l1).f2;
-    l15.f0 = l14;
-    l15.f1 = l11;
+    l15.f0.f0.f0 = l14.f0.f0;
+    l15.f0.f0.f1 = l14.f0.f1;
+    l15.f0.f0.f2 = l14.f0.f2;
+    l15.f0.f0.f3 = l14.f0.f3;
+    l15.f0.f0.f4 = l14.f0.f4;
+    l15.f0.f0.f5 = l14.f0.f5;
+    l15.f0.f0.f6 = l14.f0.f6;
+    l15.f0.f1 = l14.f1;
+    l15.f0.f2 = l14.f2;
+    l15.f1.f0 = l18.s0.f0;
+    l15.f1.f1.f0 = l18.s0.f1.f0;
+    l15.f1.f1.f1 = l18.s0.f1.f1;
+    l15.f1.f1.f2 = l18.s0.f1.f2;
+    l15.f1.f1.f3 = l18.s0.f1.f3;
+    l15.f1.f1.f4 = l18.s0.f1.f4;
+    l15.f1.f1.f5 = l18.s0.f1.f5;
+    l15.f1.f1.f6 = l18.s0.f1.f6;
     l15.f2 = l6;
     l34 = (uint8_t *)&l9;
     l35.p = l34;
@@ -21536,22 +20396,16 @@ static RT_APART struct trace_images__Traced trace_images__begun(uint8_t *l1, rt_
     l39.p = l38;
     l39.n = l7.n;
     l16 = trace_images__telling__play(l2, l3, l15, l35, l37, l5, l39);
-    l17.f0.f0.f0 = l16.f0.f0.f0.f0;
-    l17.f0.f0.f1 = l16.f0.f0.f0.f1;
-    l17.f0.f0.f2 = l16.f0.f0.f0.f2;
-    l17.f0.f0.f3 = l16.f0.f0.f0.f3;
-    l17.f0.f0.f4 = l16.f0.f0.f0.f4;
-    l17.f0.f0.f5 = l16.f0.f0.f0.f5;
-    l17.f0.f0.f6 = l16.f0.f0.f0.f6;
-    l17.f1 = l16.f0.f1;
-    l17.f2 = l16.f0.f2;
-    l17.f3 = l16.f0.f3;
-    l40.f0 = l16.f3.f0;
-    l40.f1 = l16.f3.f1;
     l41 = (uint8_t *)&(*(uint8_t *)l7.p);
     l42.p = l41;
     l42.n = l7.n;
-    l0 = trace_images__pages__ended(l40, l16.f1, l17.f2, l42);
+    {
+        struct trace_images__Traced r = trace_images__pages__ended(l16.f3, l16.f1, l16.f0.f2, l42);
+        l0.f0 = r.f0;
+        l0.f1 = r.f1;
+        l0.f2 = r.f2;
+        l0.f3 = r.f3;
+    }
     return l0;
 }
 
@@ -21578,14 +20432,12 @@ static RT_HERE struct trace_images__Traced trace_images__pages__ended(struct tra
     rt_slice l13;
     struct rt_array_uint64_2 l14;
     uint64_t l15;
-    uint64_t l16;
     uint8_t *l17;
     rt_slice l18;
     uint8_t *l19;
     rt_slice l20;
     uint8_t *l21;
     rt_slice l22;
-    uint64_t l23;
     uint64_t l24;
     uint32_t l25;
     memset(&l5, 0, sizeof l5);
@@ -21597,8 +20449,7 @@ static RT_HERE struct trace_images__Traced trace_images__pages__ended(struct tra
     l13.p = l12;
     l13.n = UINT64_C(3);
     l15 = (uint64_t)l2;
-    l16 = l3;
-    l14 = (struct rt_array_uint64_2){ { l15, l16 } };
+    l14 = (struct rt_array_uint64_2){ { l15, l3 } };
     l17 = (uint8_t *)&l14;
     l18.p = l17;
     l18.n = UINT64_C(2);
@@ -21610,9 +20461,8 @@ static RT_HERE struct trace_images__Traced trace_images__pages__ended(struct tra
     l22.p = l21;
     l22.n = l4.n;
     l7 = trace_images__pages__put(l1, l20, l22);
-    l23 = l4.n;
     l24 = core__int__usize__saturating_sub(l7.f1, l7.f0);
-    l8 = trace_images__pages__least(l23, l24);
+    l8 = trace_images__pages__least(l4.n, l24);
     l25 = (uint32_t)l3;
     l0.f0 = l2;
     l0.f1 = l25;
@@ -21645,7 +20495,6 @@ static RT_HERE struct trace_images__pages__Page trace_images__pages__put(struct 
     uint64_t l7;
     uint64_t l8;
     uint64_t l9;
-    uint64_t l10;
     uint64_t l11;
     uint8_t *l13;
     rt_slice l14;
@@ -21660,8 +20509,7 @@ static RT_HERE struct trace_images__pages__Page trace_images__pages__put(struct 
     l5 = trace_images__pages__least(l7, l8);
     l8 = l2.n;
     l9 = (uint64_t)((uint64_t)l8 - (uint64_t)l5);
-    l10 = l3.n;
-    l11 = (uint64_t)((uint64_t)l10 - (uint64_t)l4);
+    l11 = (uint64_t)((uint64_t)l3.n - (uint64_t)l4);
     l7 = trace_images__pages__least(l9, l11);
     l6 = (uint64_t)((uint64_t)l5 + (uint64_t)l7);
     l13 = (uint8_t *)&(*(uint8_t *)l3.p);
@@ -21690,7 +20538,13 @@ static RT_HERE struct trace_images__Traced trace_images__pages__refused(uint8_t 
     l5 = (uint8_t *)&(*(uint8_t *)l3.p);
     l6.p = l5;
     l6.n = l3.n;
-    l0 = trace_images__pages__ended(l4, l1, UINT64_C(0), l6);
+    {
+        struct trace_images__Traced r = trace_images__pages__ended(l4, l1, UINT64_C(0), l6);
+        l0.f0 = r.f0;
+        l0.f1 = r.f1;
+        l0.f2 = r.f2;
+        l0.f3 = r.f3;
+    }
     return l0;
 }
 
@@ -21698,7 +20552,6 @@ static RT_APART struct core__result__Result__Seat_Refusal trace_images__seated(u
 {
     struct core__result__Result__Seat_Refusal l0;
     struct rt_array_uint8_8568 l6;
-    struct table_read__parameters__Parameters l7;
     uint8_t *l8;
     rt_slice l9;
     uint8_t *l10;
@@ -21706,8 +20559,6 @@ static RT_APART struct core__result__Result__Seat_Refusal trace_images__seated(u
     uint8_t *l12;
     rt_slice l13;
     memset(&l6, 0, sizeof l6);
-    l7.f0 = l2.f0;
-    l7.f1 = l2.f1;
     l8 = (uint8_t *)&l6;
     l9.p = l8;
     l9.n = UINT64_C(8568);
@@ -21717,7 +20568,19 @@ static RT_APART struct core__result__Result__Seat_Refusal trace_images__seated(u
     l12 = (uint8_t *)&(*(uint64_t *)l5.p);
     l13.p = l12;
     l13.n = l5.n;
-    l0 = seating__seat_table(l1, l7, l3, l9, l11, l13);
+    {
+        struct core__result__Result__Seat_Refusal r = seating__seat_table(l1, l2, l3, l9, l11, l13);
+        l0.tag = r.tag;
+        l0.s0.f0 = r.s0.f0;
+        l0.s0.f1.f0 = r.s0.f1.f0;
+        l0.s0.f1.f1 = r.s0.f1.f1;
+        l0.s0.f1.f2 = r.s0.f1.f2;
+        l0.s0.f1.f3 = r.s0.f1.f3;
+        l0.s0.f1.f4 = r.s0.f1.f4;
+        l0.s0.f1.f5 = r.s0.f1.f5;
+        l0.s0.f1.f6 = r.s0.f1.f6;
+        l0.s1.tag = r.s1.tag;
+    }
     return l0;
 }
 
@@ -21725,80 +20588,88 @@ static RT_HERE struct trace_images__telling__Telling trace_images__telling__behi
 {
     struct trace_images__telling__Telling l0;
     struct trace_lines__Coming l5;
-    l5.f0 = l1;
+    l5.f0.f0.f0 = l1.f0.f0;
+    l5.f0.f0.f1 = l1.f0.f1;
+    l5.f0.f0.f2 = l1.f0.f2;
+    l5.f0.f0.f3 = l1.f0.f3;
+    l5.f0.f0.f4 = l1.f0.f4;
+    l5.f0.f0.f5 = l1.f0.f5;
+    l5.f0.f0.f6 = l1.f0.f6;
     l5.f1 = l2;
     l5.f2 = l3;
     l5.f3 = UINT8_C(0);
-    l0.f0 = l5;
+    l0.f0.f0.f0.f0 = l5.f0.f0.f0;
+    l0.f0.f0.f0.f1 = l5.f0.f0.f1;
+    l0.f0.f0.f0.f2 = l5.f0.f0.f2;
+    l0.f0.f0.f0.f3 = l5.f0.f0.f3;
+    l0.f0.f0.f0.f4 = l5.f0.f0.f4;
+    l0.f0.f0.f0.f5 = l5.f0.f0.f5;
+    l0.f0.f0.f0.f6 = l5.f0.f0.f6;
+    l0.f0.f1 = l5.f1;
+    l0.f0.f2 = l5.f2;
+    l0.f0.f3 = l5.f3;
     l0.f1 = l1.f0.f4;
     l0.f2 = 0;
-    l0.f3 = l4;
+    l0.f3.f0 = l4.f0;
+    l0.f3.f1 = l4.f1;
     return l0;
 }
 
 static RT_HERE struct trace_images__telling__Telling trace_images__telling__first(struct trace_images__telling__Start l1)
 {
     struct trace_images__telling__Telling l0;
-    struct layout__Numbers l2;
     struct engine__Machine l3;
     struct trace_lines__Coming l4;
     struct trace_images__pages__Page l5;
-    l2.f0 = l1.f1.f1.f0;
-    l2.f1 = l1.f1.f1.f1;
-    l2.f2 = l1.f1.f1.f2;
-    l2.f3 = l1.f1.f1.f3;
-    l2.f4 = l1.f1.f1.f4;
-    l2.f5 = l1.f1.f1.f5;
-    l2.f6 = l1.f1.f1.f6;
-    l3.f0 = l2;
-    l4.f0 = l3;
+    l3.f0.f0 = l1.f1.f1.f0;
+    l3.f0.f1 = l1.f1.f1.f1;
+    l3.f0.f2 = l1.f1.f1.f2;
+    l3.f0.f3 = l1.f1.f1.f3;
+    l3.f0.f4 = l1.f1.f1.f4;
+    l3.f0.f5 = l1.f1.f1.f5;
+    l3.f0.f6 = l1.f1.f1.f6;
+    l4.f0.f0.f0 = l3.f0.f0;
+    l4.f0.f0.f1 = l3.f0.f1;
+    l4.f0.f0.f2 = l3.f0.f2;
+    l4.f0.f0.f3 = l3.f0.f3;
+    l4.f0.f0.f4 = l3.f0.f4;
+    l4.f0.f0.f5 = l3.f0.f5;
+    l4.f0.f0.f6 = l3.f0.f6;
     l4.f1 = UINT64_C(0);
     l4.f2 = UINT64_C(0);
     l4.f3 = UINT8_C(0);
     l5 = trace_images__pages__blank(l1.f2);
-    l0.f0 = l4;
+    l0.f0.f0.f0.f0 = l4.f0.f0.f0;
+    l0.f0.f0.f0.f1 = l4.f0.f0.f1;
+    l0.f0.f0.f0.f2 = l4.f0.f0.f2;
+    l0.f0.f0.f0.f3 = l4.f0.f0.f3;
+    l0.f0.f0.f0.f4 = l4.f0.f0.f4;
+    l0.f0.f0.f0.f5 = l4.f0.f0.f5;
+    l0.f0.f0.f0.f6 = l4.f0.f0.f6;
+    l0.f0.f1 = l4.f1;
+    l0.f0.f2 = l4.f2;
+    l0.f0.f3 = l4.f3;
     l0.f1 = UINT8_C(0);
     l0.f2 = 0;
-    l0.f3 = l5;
+    l0.f3.f0 = l5.f0;
+    l0.f3.f1 = l5.f1;
     return l0;
 }
 
 static RT_HERE struct trace_images__telling__Telling trace_images__telling__moved(struct trace_images__telling__Telling l1, rt_slice l2, rt_slice l3, rt_slice l4, rt_slice l5)
 {
     struct trace_images__telling__Telling l0;
-    struct trace_lines__Coming l6;
-    struct engine__Machine l7;
     struct rt_array_uint8_1024 l8;
     struct trace_lines__Told l9;
-    struct engine__Machine l10;
-    uint64_t l11;
     struct trace_images__pages__Page l12;
     uint8_t *l13;
     rt_slice l14;
     uint8_t *l15;
     rt_slice l16;
-    struct trace_images__pages__Page l17;
     uint8_t *l18;
     rt_slice l19;
     uint8_t *l20;
     rt_slice l21;
-    l6.f0.f0.f0 = l1.f0.f0.f0.f0;
-    l6.f0.f0.f1 = l1.f0.f0.f0.f1;
-    l6.f0.f0.f2 = l1.f0.f0.f0.f2;
-    l6.f0.f0.f3 = l1.f0.f0.f0.f3;
-    l6.f0.f0.f4 = l1.f0.f0.f0.f4;
-    l6.f0.f0.f5 = l1.f0.f0.f0.f5;
-    l6.f0.f0.f6 = l1.f0.f0.f0.f6;
-    l6.f1 = l1.f0.f1;
-    l6.f2 = l1.f0.f2;
-    l6.f3 = l1.f0.f3;
-    l7.f0.f0 = l6.f0.f0.f0;
-    l7.f0.f1 = l6.f0.f0.f1;
-    l7.f0.f2 = l6.f0.f0.f2;
-    l7.f0.f3 = l6.f0.f0.f3;
-    l7.f0.f4 = l6.f0.f0.f4;
-    l7.f0.f5 = l6.f0.f0.f5;
-    l7.f0.f6 = l6.f0.f0.f6;
     memset(&l8, 0, sizeof l8);
     l13 = (uint8_t *)&(*(uint16_t *)l4.p);
     l14.p = l13;
@@ -21806,40 +20677,43 @@ static RT_HERE struct trace_images__telling__Telling trace_images__telling__move
     l15 = (uint8_t *)&l8;
     l16.p = l15;
     l16.n = UINT64_C(1024);
-    l9 = trace_lines__advance(l7, l6.f1, l2, l3, l14, l16);
-    l10.f0.f0 = l9.f0.f0.f0;
-    l10.f0.f1 = l9.f0.f0.f1;
-    l10.f0.f2 = l9.f0.f0.f2;
-    l10.f0.f3 = l9.f0.f0.f3;
-    l10.f0.f4 = l9.f0.f0.f4;
-    l10.f0.f5 = l9.f0.f0.f5;
-    l10.f0.f6 = l9.f0.f0.f6;
-    l11 = l9.f2;
-    l17.f0 = l1.f3.f0;
-    l17.f1 = l1.f3.f1;
+    l9 = trace_lines__advance(l1.f0.f0, l1.f0.f1, l2, l3, l14, l16);
     l18 = (uint8_t *)&l8;
     l19.p = l18;
-    l19.n = l11;
+    l19.n = l9.f2;
     l20 = (uint8_t *)&(*(uint8_t *)l5.p);
     l21.p = l20;
     l21.n = l5.n;
-    l12 = trace_images__pages__put(l17, l19, l21);
-    l0 = trace_images__telling__behind(l10, l9.f1, l6.f2, l12);
+    l12 = trace_images__pages__put(l1.f3, l19, l21);
+    {
+        struct trace_images__telling__Telling r = trace_images__telling__behind(l9.f0, l9.f1, l1.f0.f2, l12);
+        l0.f0.f0.f0.f0 = r.f0.f0.f0.f0;
+        l0.f0.f0.f0.f1 = r.f0.f0.f0.f1;
+        l0.f0.f0.f0.f2 = r.f0.f0.f0.f2;
+        l0.f0.f0.f0.f3 = r.f0.f0.f0.f3;
+        l0.f0.f0.f0.f4 = r.f0.f0.f0.f4;
+        l0.f0.f0.f0.f5 = r.f0.f0.f0.f5;
+        l0.f0.f0.f0.f6 = r.f0.f0.f0.f6;
+        l0.f0.f1 = r.f0.f1;
+        l0.f0.f2 = r.f0.f2;
+        l0.f0.f3 = r.f0.f3;
+        l0.f1 = r.f1;
+        l0.f2 = r.f2;
+        l0.f3.f0 = r.f3.f0;
+        l0.f3.f1 = r.f3.f1;
+    }
     return l0;
 }
 
 static RT_APART struct trace_images__telling__Telling trace_images__telling__play(rt_slice l1, rt_slice l2, struct trace_images__telling__Start l3, rt_slice l4, rt_slice l5, rt_slice l6, rt_slice l7)
 {
     struct trace_images__telling__Telling l0;
-    struct seating__Opened l8;
     struct rt_array_uint8_16 l9;
-    struct load__Loaded l10;
     uint64_t l11;
     rt_slice l12;
     struct rt_array_uint64_1024 l13;
     struct rt_array_uint16_1024 l14;
     struct rt_array_uint64_129 l15;
-    struct seating__Seat l16;
     struct trace_images__telling__Telling l17;
     struct trace_images__telling__Telling l18;
     struct trace_images__telling__Telling l19;
@@ -21879,50 +20753,26 @@ static RT_APART struct trace_images__telling__Telling trace_images__telling__pla
     rt_slice l54;
     uint8_t *l55;
     rt_slice l56;
-    l8.f0.f0 = l3.f0.f0.f0;
-    l8.f0.f1 = l3.f0.f0.f1;
-    l8.f0.f2 = l3.f0.f0.f2;
-    l8.f0.f3 = l3.f0.f0.f3;
-    l8.f0.f4 = l3.f0.f0.f4;
-    l8.f0.f5 = l3.f0.f0.f5;
-    l8.f0.f6 = l3.f0.f0.f6;
-    l8.f1 = l3.f0.f1;
-    l8.f2 = l3.f0.f2;
-    l9 = l8.f1;
-    l10.f0 = l8.f0.f0;
-    l10.f1 = l8.f0.f1;
-    l10.f2 = l8.f0.f2;
-    l10.f3 = l8.f0.f3;
-    l10.f4 = l8.f0.f4;
-    l10.f5 = l8.f0.f5;
-    l10.f6 = l8.f0.f6;
-    l11 = (uint64_t)l10.f3;
+    l9 = l3.f0.f1;
+    l11 = (uint64_t)l3.f0.f0.f3;
     l20 = (uint8_t *)&l9;
     l12.p = l20;
     l12.n = l11;
     memset(&l13, 0, sizeof l13);
     memset(&l14, 0, sizeof l14);
     memset(&l15, 0, sizeof l15);
-    l22 = (uint64_t)l10.f4;
+    l22 = (uint64_t)l3.f0.f0.f4;
     l23 = (uint8_t *)&l14;
     l24.p = l23;
     l24.n = UINT64_C(1024);
     l25 = (uint8_t *)&l15;
     l26.p = l25;
     l26.n = UINT64_C(129);
-    compile__program(l1, l10.f2, l11, l2, l22, l24, l26);
-    l16.f0 = l3.f1.f0;
-    l16.f1.f0 = l3.f1.f1.f0;
-    l16.f1.f1 = l3.f1.f1.f1;
-    l16.f1.f2 = l3.f1.f1.f2;
-    l16.f1.f3 = l3.f1.f1.f3;
-    l16.f1.f4 = l3.f1.f1.f4;
-    l16.f1.f5 = l3.f1.f1.f5;
-    l16.f1.f6 = l3.f1.f1.f6;
+    compile__program(l1, l3.f0.f0.f2, l11, l2, l22, l24, l26);
     l27 = (uint8_t *)&l13;
     l28.p = l27;
     l28.n = UINT64_C(1024);
-    emit_steps__program(l1, l12, l16.f0, l28);
+    emit_steps__program(l1, l12, l3.f1.f0, l28);
     l29 = trace_images__telling__first(l3);
     l30 = (uint8_t *)&l15;
     l31.p = l30;
@@ -21999,24 +20849,20 @@ end1:;
 static RT_HERE struct trace_images__telling__Telling trace_images__telling__resting(struct trace_images__telling__Telling l1, uint8_t l2)
 {
     struct trace_images__telling__Telling l0;
-    struct trace_lines__Coming l3;
-    struct trace_images__pages__Page l4;
-    l3.f0.f0.f0 = l1.f0.f0.f0.f0;
-    l3.f0.f0.f1 = l1.f0.f0.f0.f1;
-    l3.f0.f0.f2 = l1.f0.f0.f0.f2;
-    l3.f0.f0.f3 = l1.f0.f0.f0.f3;
-    l3.f0.f0.f4 = l1.f0.f0.f0.f4;
-    l3.f0.f0.f5 = l1.f0.f0.f0.f5;
-    l3.f0.f0.f6 = l1.f0.f0.f0.f6;
-    l3.f1 = l1.f0.f1;
-    l3.f2 = l1.f0.f2;
-    l3.f3 = l1.f0.f3;
-    l4.f0 = l1.f3.f0;
-    l4.f1 = l1.f3.f1;
-    l0.f0 = l3;
+    l0.f0.f0.f0.f0 = l1.f0.f0.f0.f0;
+    l0.f0.f0.f0.f1 = l1.f0.f0.f0.f1;
+    l0.f0.f0.f0.f2 = l1.f0.f0.f0.f2;
+    l0.f0.f0.f0.f3 = l1.f0.f0.f0.f3;
+    l0.f0.f0.f0.f4 = l1.f0.f0.f0.f4;
+    l0.f0.f0.f0.f5 = l1.f0.f0.f0.f5;
+    l0.f0.f0.f0.f6 = l1.f0.f0.f0.f6;
+    l0.f0.f1 = l1.f0.f1;
+    l0.f0.f2 = l1.f0.f2;
+    l0.f0.f3 = l1.f0.f3;
     l0.f1 = l2;
     l0.f2 = 0;
-    l0.f3 = l4;
+    l0.f3.f0 = l1.f3.f0;
+    l0.f3.f1 = l1.f3.f1;
     return l0;
 }
 
@@ -22116,11 +20962,9 @@ static RT_HERE struct trace_images__telling__Telling trace_images__telling__told
     struct trace_images__telling__Telling l0;
     struct trace_lines__Coming l3;
     uint64_t l4;
-    struct trace_images__pages__Page l5;
     uint8_t l6;
     struct layout__Numbers l7;
     uint8_t l8;
-    uint64_t l9;
     uint8_t l10;
     uint8_t *l11;
     uint8_t l12;
@@ -22144,37 +20988,73 @@ static RT_HERE struct trace_images__telling__Telling trace_images__telling__told
     l6 = layout__due(l7);
     l8 = (uint8_t)!l6;
     if (l8) {
-        l0 = trace_images__telling__resting(l1, UINT8_C(0));
+        {
+            struct trace_images__telling__Telling r = trace_images__telling__resting(l1, UINT8_C(0));
+            l0.f0.f0.f0.f0 = r.f0.f0.f0.f0;
+            l0.f0.f0.f0.f1 = r.f0.f0.f0.f1;
+            l0.f0.f0.f0.f2 = r.f0.f0.f0.f2;
+            l0.f0.f0.f0.f3 = r.f0.f0.f0.f3;
+            l0.f0.f0.f0.f4 = r.f0.f0.f0.f4;
+            l0.f0.f0.f0.f5 = r.f0.f0.f0.f5;
+            l0.f0.f0.f0.f6 = r.f0.f0.f0.f6;
+            l0.f0.f1 = r.f0.f1;
+            l0.f0.f2 = r.f0.f2;
+            l0.f0.f3 = r.f0.f3;
+            l0.f1 = r.f1;
+            l0.f2 = r.f2;
+            l0.f3.f0 = r.f3.f0;
+            l0.f3.f1 = r.f3.f1;
+        }
         return l0;
     }
     l4 = l3.f2;
-    l9 = l2.n;
-    l6 = (uint8_t)(l9 <= l4);
+    l6 = (uint8_t)(l2.n <= l4);
     if (l6) {
         l10 = UINT8_C(33);
-        l0 = trace_images__telling__resting(l1, l10);
+        {
+            struct trace_images__telling__Telling r = trace_images__telling__resting(l1, l10);
+            l0.f0.f0.f0.f0 = r.f0.f0.f0.f0;
+            l0.f0.f0.f0.f1 = r.f0.f0.f0.f1;
+            l0.f0.f0.f0.f2 = r.f0.f0.f0.f2;
+            l0.f0.f0.f0.f3 = r.f0.f0.f0.f3;
+            l0.f0.f0.f0.f4 = r.f0.f0.f0.f4;
+            l0.f0.f0.f0.f5 = r.f0.f0.f0.f5;
+            l0.f0.f0.f0.f6 = r.f0.f0.f0.f6;
+            l0.f0.f1 = r.f0.f1;
+            l0.f0.f2 = r.f0.f2;
+            l0.f0.f3 = r.f0.f3;
+            l0.f1 = r.f1;
+            l0.f2 = r.f2;
+            l0.f3.f0 = r.f3.f0;
+            l0.f3.f1 = r.f3.f1;
+        }
         return l0;
     }
     l11 = l2.p + (size_t)l4;
     l12 = (*(uint8_t *)l11);
     l3.f3 = l12;
-    l5.f0 = l1.f3.f0;
-    l5.f1 = l1.f3.f1;
-    l0.f0 = l3;
+    l0.f0.f0.f0.f0 = l3.f0.f0.f0;
+    l0.f0.f0.f0.f1 = l3.f0.f0.f1;
+    l0.f0.f0.f0.f2 = l3.f0.f0.f2;
+    l0.f0.f0.f0.f3 = l3.f0.f0.f3;
+    l0.f0.f0.f0.f4 = l3.f0.f0.f4;
+    l0.f0.f0.f0.f5 = l3.f0.f0.f5;
+    l0.f0.f0.f0.f6 = l3.f0.f0.f6;
+    l0.f0.f1 = l3.f1;
+    l0.f0.f2 = l3.f2;
+    l0.f0.f3 = l3.f3;
     l0.f1 = UINT8_C(0);
     l0.f2 = 1;
-    l0.f3 = l5;
+    l0.f3.f0 = l1.f3.f0;
+    l0.f3.f1 = l1.f3.f1;
     return l0;
 }
 
 static RT_HERE struct trace_images__telling__Telling trace_images__telling__turn(struct trace_images__telling__Telling l1, rt_slice l2, rt_slice l3, rt_slice l4, rt_slice l5, rt_slice l6, rt_slice l7)
 {
     struct trace_images__telling__Telling l0;
-    struct trace_lines__Coming l8;
     struct rt_array_uint8_1024 l9;
     struct trace_lines__Told l10;
-    struct engine__Machine l11;
-    uint64_t l12;
     struct trace_images__pages__Page l13;
     uint8_t *l14;
     rt_slice l15;
@@ -22183,23 +21063,11 @@ static RT_HERE struct trace_images__telling__Telling trace_images__telling__turn
     uint8_t *l18;
     rt_slice l19;
     uint8_t l20;
-    struct trace_images__pages__Page l21;
-    struct trace_images__pages__Page l22;
     uint8_t *l23;
     rt_slice l24;
     uint8_t *l25;
     rt_slice l26;
     uint64_t l27;
-    l8.f0.f0.f0 = l1.f0.f0.f0.f0;
-    l8.f0.f0.f1 = l1.f0.f0.f0.f1;
-    l8.f0.f0.f2 = l1.f0.f0.f0.f2;
-    l8.f0.f0.f3 = l1.f0.f0.f0.f3;
-    l8.f0.f0.f4 = l1.f0.f0.f0.f4;
-    l8.f0.f0.f5 = l1.f0.f0.f0.f5;
-    l8.f0.f0.f6 = l1.f0.f0.f0.f6;
-    l8.f1 = l1.f0.f1;
-    l8.f2 = l1.f0.f2;
-    l8.f3 = l1.f0.f3;
     memset(&l9, 0, sizeof l9);
     l14 = (uint8_t *)&(*(uint16_t *)l5.p);
     l15.p = l14;
@@ -22210,33 +21078,53 @@ static RT_HERE struct trace_images__telling__Telling trace_images__telling__turn
     l18 = (uint8_t *)&l9;
     l19.p = l18;
     l19.n = UINT64_C(1024);
-    l10 = trace_lines__turn(l8, l2, l3, l4, l15, l17, l19);
-    l11.f0.f0 = l10.f0.f0.f0;
-    l11.f0.f1 = l10.f0.f0.f1;
-    l11.f0.f2 = l10.f0.f0.f2;
-    l11.f0.f3 = l10.f0.f0.f3;
-    l11.f0.f4 = l10.f0.f0.f4;
-    l11.f0.f5 = l10.f0.f0.f5;
-    l11.f0.f6 = l10.f0.f0.f6;
-    l20 = (uint8_t)(l11.f0.f4 != UINT8_C(0));
+    l10 = trace_lines__turn(l1.f0, l2, l3, l4, l15, l17, l19);
+    l20 = (uint8_t)(l10.f0.f0.f4 != UINT8_C(0));
     if (l20) {
-        l21.f0 = l1.f3.f0;
-        l21.f1 = l1.f3.f1;
-        l0 = trace_images__telling__behind(l11, l8.f1, l8.f2, l21);
+        {
+            struct trace_images__telling__Telling r = trace_images__telling__behind(l10.f0, l1.f0.f1, l1.f0.f2, l1.f3);
+            l0.f0.f0.f0.f0 = r.f0.f0.f0.f0;
+            l0.f0.f0.f0.f1 = r.f0.f0.f0.f1;
+            l0.f0.f0.f0.f2 = r.f0.f0.f0.f2;
+            l0.f0.f0.f0.f3 = r.f0.f0.f0.f3;
+            l0.f0.f0.f0.f4 = r.f0.f0.f0.f4;
+            l0.f0.f0.f0.f5 = r.f0.f0.f0.f5;
+            l0.f0.f0.f0.f6 = r.f0.f0.f0.f6;
+            l0.f0.f1 = r.f0.f1;
+            l0.f0.f2 = r.f0.f2;
+            l0.f0.f3 = r.f0.f3;
+            l0.f1 = r.f1;
+            l0.f2 = r.f2;
+            l0.f3.f0 = r.f3.f0;
+            l0.f3.f1 = r.f3.f1;
+        }
         return l0;
     }
-    l12 = l10.f2;
-    l22.f0 = l1.f3.f0;
-    l22.f1 = l1.f3.f1;
     l23 = (uint8_t *)&l9;
     l24.p = l23;
-    l24.n = l12;
+    l24.n = l10.f2;
     l25 = (uint8_t *)&(*(uint8_t *)l7.p);
     l26.p = l25;
     l26.n = l7.n;
-    l13 = trace_images__pages__put(l22, l24, l26);
-    l27 = (uint64_t)((uint64_t)l8.f2 + (uint64_t)UINT64_C(1));
-    l0 = trace_images__telling__behind(l11, l8.f1, l27, l13);
+    l13 = trace_images__pages__put(l1.f3, l24, l26);
+    l27 = (uint64_t)((uint64_t)l1.f0.f2 + (uint64_t)UINT64_C(1));
+    {
+        struct trace_images__telling__Telling r = trace_images__telling__behind(l10.f0, l1.f0.f1, l27, l13);
+        l0.f0.f0.f0.f0 = r.f0.f0.f0.f0;
+        l0.f0.f0.f0.f1 = r.f0.f0.f0.f1;
+        l0.f0.f0.f0.f2 = r.f0.f0.f0.f2;
+        l0.f0.f0.f0.f3 = r.f0.f0.f0.f3;
+        l0.f0.f0.f0.f4 = r.f0.f0.f0.f4;
+        l0.f0.f0.f0.f5 = r.f0.f0.f0.f5;
+        l0.f0.f0.f0.f6 = r.f0.f0.f0.f6;
+        l0.f0.f1 = r.f0.f1;
+        l0.f0.f2 = r.f0.f2;
+        l0.f0.f3 = r.f0.f3;
+        l0.f1 = r.f1;
+        l0.f2 = r.f2;
+        l0.f3.f0 = r.f3.f0;
+        l0.f3.f1 = r.f3.f1;
+    }
     return l0;
 }
 
@@ -22246,15 +21134,12 @@ static RT_APART struct trace_images__Traced trace_images__trace(rt_slice l1, rt_
     struct rt_array_uint8_5730 l6;
     struct rt_array_uint16_512 l7;
     struct seating__Opened l8;
-    struct seating__Opened l9;
-    struct types__refusal__Refusal l10;
     uint64_t l11;
     struct core__result__Result__Opened_Refusal l12;
     uint8_t *l13;
     rt_slice l14;
     uint8_t *l15;
     rt_slice l16;
-    struct seating__Opened l17;
     uint8_t l18;
     uint8_t *l19;
     rt_slice l20;
@@ -22276,46 +21161,33 @@ static RT_APART struct trace_images__Traced trace_images__trace(rt_slice l1, rt_
     l12 = seating__open_program(l1, l14, l16);
     switch (l12.tag) {
         case UINT8_C(0): {
-            l9.f0.f0 = l12.s0.f0.f0;
-            l9.f0.f1 = l12.s0.f0.f1;
-            l9.f0.f2 = l12.s0.f0.f2;
-            l9.f0.f3 = l12.s0.f0.f3;
-            l9.f0.f4 = l12.s0.f0.f4;
-            l9.f0.f5 = l12.s0.f0.f5;
-            l9.f0.f6 = l12.s0.f0.f6;
-            l9.f1 = l12.s0.f1;
-            l9.f2 = l12.s0.f2;
-            l17.f0.f0 = l9.f0.f0;
-            l17.f0.f1 = l9.f0.f1;
-            l17.f0.f2 = l9.f0.f2;
-            l17.f0.f3 = l9.f0.f3;
-            l17.f0.f4 = l9.f0.f4;
-            l17.f0.f5 = l9.f0.f5;
-            l17.f0.f6 = l9.f0.f6;
-            l17.f1 = l9.f1;
-            l17.f2 = l9.f2;
             break;
         }
         case UINT8_C(1): default: {
-            l10 = l12.s1;
-            l18 = types__refusal__U8FromRefusal__from(l10);
+            l18 = types__refusal__U8FromRefusal__from(l12.s1);
             l19 = (uint8_t *)&(*(uint8_t *)l5.p);
             l20.p = l19;
             l20.n = l5.n;
-            l0 = trace_images__pages__refused(l18, l4, l20);
+            {
+                struct trace_images__Traced r = trace_images__pages__refused(l18, l4, l20);
+                l0.f0 = r.f0;
+                l0.f1 = r.f1;
+                l0.f2 = r.f2;
+                l0.f3 = r.f3;
+            }
             return l0;
             break;
         }
     }
-    l8.f0.f0 = l17.f0.f0;
-    l8.f0.f1 = l17.f0.f1;
-    l8.f0.f2 = l17.f0.f2;
-    l8.f0.f3 = l17.f0.f3;
-    l8.f0.f4 = l17.f0.f4;
-    l8.f0.f5 = l17.f0.f5;
-    l8.f0.f6 = l17.f0.f6;
-    l8.f1 = l17.f1;
-    l8.f2 = l17.f2;
+    l8.f0.f0 = l12.s0.f0.f0;
+    l8.f0.f1 = l12.s0.f0.f1;
+    l8.f0.f2 = l12.s0.f0.f2;
+    l8.f0.f3 = l12.s0.f0.f3;
+    l8.f0.f4 = l12.s0.f0.f4;
+    l8.f0.f5 = l12.s0.f0.f5;
+    l8.f0.f6 = l12.s0.f0.f6;
+    l8.f1 = l12.s0.f1;
+    l8.f2 = l12.s0.f2;
     l11 = l8.f0.f0;
     l21 = (uint8_t *)&l8;
     l22 = (uint8_t *)&l6;
@@ -22327,18 +21199,21 @@ static RT_APART struct trace_images__Traced trace_images__trace(rt_slice l1, rt_
     l26 = (uint8_t *)&(*(uint8_t *)l5.p);
     l27.p = l26;
     l27.n = l5.n;
-    l0 = trace_images__begun(l21, l23, l25, l2, l3, l4, l27);
+    {
+        struct trace_images__Traced r = trace_images__begun(l21, l23, l25, l2, l3, l4, l27);
+        l0.f0 = r.f0;
+        l0.f1 = r.f1;
+        l0.f2 = r.f2;
+        l0.f3 = r.f3;
+    }
     return l0;
 }
 
 static RT_HERE struct trace_lines__Told trace_lines__advance(struct engine__Machine l1, uint64_t l2, rt_slice l3, rt_slice l4, rt_slice l5, rt_slice l6)
 {
     struct trace_lines__Told l0;
-    struct layout__Numbers l7;
-    uint64_t l8;
     uint64_t l9;
     struct engine__Machine l10;
-    struct layout__Numbers l11;
     uint64_t l12;
     uint64_t l13;
     uint8_t *l14;
@@ -22347,15 +21222,7 @@ static RT_HERE struct trace_lines__Told trace_lines__advance(struct engine__Mach
     rt_slice l17;
     uint8_t *l18;
     rt_slice l19;
-    l7.f0 = l1.f0.f0;
-    l7.f1 = l1.f0.f1;
-    l7.f2 = l1.f0.f2;
-    l7.f3 = l1.f0.f3;
-    l7.f4 = l1.f0.f4;
-    l7.f5 = l1.f0.f5;
-    l7.f6 = l1.f0.f6;
-    l8 = l7.f1;
-    l13 = (uint64_t)((uint64_t)l8 * (uint64_t)UINT64_C(8));
+    l13 = (uint64_t)((uint64_t)l1.f0.f1 * (uint64_t)UINT64_C(8));
     l14 = l3.p + (size_t)l13;
     l15 = (*(uint64_t *)l14);
     l9 = trace_lines__step_at(l15, l2);
@@ -22363,18 +21230,17 @@ static RT_HERE struct trace_lines__Told trace_lines__advance(struct engine__Mach
     l17.p = l16;
     l17.n = l5.n;
     l10 = engine__Machine__advance(l1, l3, l4, l17);
-    l11.f0 = l10.f0.f0;
-    l11.f1 = l10.f0.f1;
-    l11.f2 = l10.f0.f2;
-    l11.f3 = l10.f0.f3;
-    l11.f4 = l10.f0.f4;
-    l11.f5 = l10.f0.f5;
-    l11.f6 = l10.f0.f6;
     l18 = (uint8_t *)&(*(uint8_t *)l6.p);
     l19.p = l18;
     l19.n = l6.n;
-    l12 = trace_lines__moved(l19, l11);
-    l0.f0 = l10;
+    l12 = trace_lines__moved(l19, l10.f0);
+    l0.f0.f0.f0 = l10.f0.f0;
+    l0.f0.f0.f1 = l10.f0.f1;
+    l0.f0.f0.f2 = l10.f0.f2;
+    l0.f0.f0.f3 = l10.f0.f3;
+    l0.f0.f0.f4 = l10.f0.f4;
+    l0.f0.f0.f5 = l10.f0.f5;
+    l0.f0.f0.f6 = l10.f0.f6;
     l0.f1 = l9;
     l0.f2 = l12;
     return l0;
@@ -22837,9 +21703,6 @@ static inline uint64_t trace_lines__step_at(uint64_t l1, uint64_t l2)
 static RT_HERE struct trace_lines__Told trace_lines__turn(struct trace_lines__Coming l1, rt_slice l2, rt_slice l3, rt_slice l4, rt_slice l5, rt_slice l6, rt_slice l7)
 {
     struct trace_lines__Told l0;
-    struct engine__Machine l8;
-    struct layout__Numbers l9;
-    uint64_t l10;
     uint64_t l11;
     struct core__option__Option__Write l12;
     uint64_t l13;
@@ -22847,7 +21710,6 @@ static RT_HERE struct trace_lines__Told trace_lines__turn(struct trace_lines__Co
     struct trace_lines__Acting l15;
     uint64_t l16;
     struct engine__Machine l17;
-    struct layout__Numbers l18;
     uint64_t l19;
     uint8_t *l20;
     rt_slice l21;
@@ -22880,25 +21742,10 @@ static RT_HERE struct trace_lines__Told trace_lines__turn(struct trace_lines__Co
     rt_slice l48;
     uint8_t *l49;
     rt_slice l50;
-    l8.f0.f0 = l1.f0.f0.f0;
-    l8.f0.f1 = l1.f0.f0.f1;
-    l8.f0.f2 = l1.f0.f0.f2;
-    l8.f0.f3 = l1.f0.f0.f3;
-    l8.f0.f4 = l1.f0.f0.f4;
-    l8.f0.f5 = l1.f0.f0.f5;
-    l8.f0.f6 = l1.f0.f0.f6;
-    l9.f0 = l8.f0.f0;
-    l9.f1 = l8.f0.f1;
-    l9.f2 = l8.f0.f2;
-    l9.f3 = l8.f0.f3;
-    l9.f4 = l8.f0.f4;
-    l9.f5 = l8.f0.f5;
-    l9.f6 = l8.f0.f6;
-    l10 = l9.f0;
     l20 = (uint8_t *)&(*(uint16_t *)l5.p);
     l21.p = l20;
     l21.n = l5.n;
-    l11 = trace_lines__choice__picked_of(l21, l10, l9.f6, l9.f5, l1.f3);
+    l11 = trace_lines__choice__picked_of(l21, l1.f0.f0.f0, l1.f0.f0.f6, l1.f0.f0.f5, l1.f3);
     l22 = (uint8_t *)&(*(uint16_t *)l5.p);
     l23.p = l22;
     l23.n = l5.n;
@@ -22941,17 +21788,16 @@ static RT_HERE struct trace_lines__Told trace_lines__turn(struct trace_lines__Co
     l42 = (uint8_t *)&(*(uint64_t *)l6.p);
     l43.p = l42;
     l43.n = l6.n;
-    l17 = engine__Machine__command(l8, l2, l3, l41, l43, l11);
-    l18.f0 = l17.f0.f0;
-    l18.f1 = l17.f0.f1;
-    l18.f2 = l17.f0.f2;
-    l18.f3 = l17.f0.f3;
-    l18.f4 = l17.f0.f4;
-    l18.f5 = l17.f0.f5;
-    l18.f6 = l17.f0.f6;
-    l44 = (uint8_t)(l18.f4 != UINT8_C(0));
+    l17 = engine__Machine__command(l1.f0, l2, l3, l41, l43, l11);
+    l44 = (uint8_t)(l17.f0.f4 != UINT8_C(0));
     if (l44) {
-        l0.f0 = l17;
+        l0.f0.f0.f0 = l17.f0.f0;
+        l0.f0.f0.f1 = l17.f0.f1;
+        l0.f0.f0.f2 = l17.f0.f2;
+        l0.f0.f0.f3 = l17.f0.f3;
+        l0.f0.f0.f4 = l17.f0.f4;
+        l0.f0.f0.f5 = l17.f0.f5;
+        l0.f0.f0.f6 = l17.f0.f6;
         l0.f1 = l1.f1;
         l0.f2 = UINT64_C(0);
         return l0;
@@ -22965,8 +21811,14 @@ static RT_HERE struct trace_lines__Told trace_lines__turn(struct trace_lines__Co
     l49 = (uint8_t *)&(*(uint64_t *)l6.p);
     l50.p = l49;
     l50.n = l6.n;
-    l19 = trace_lines__back(l46, l16, l11, l12, l18, l48, l50);
-    l0.f0 = l17;
+    l19 = trace_lines__back(l46, l16, l11, l12, l17.f0, l48, l50);
+    l0.f0.f0.f0 = l17.f0.f0;
+    l0.f0.f0.f1 = l17.f0.f1;
+    l0.f0.f0.f2 = l17.f0.f2;
+    l0.f0.f0.f3 = l17.f0.f3;
+    l0.f0.f0.f4 = l17.f0.f4;
+    l0.f0.f0.f5 = l17.f0.f5;
+    l0.f0.f0.f6 = l17.f0.f6;
     l0.f1 = l1.f1;
     l0.f2 = l19;
     return l0;
@@ -23100,7 +21952,9 @@ static RT_HERE struct core__option__Option__Write trace_lines__writes__target(rt
     l25.f1 = l9;
     l25.f2 = l18;
     l0.tag = UINT8_C(1);
-    l0.s0 = l25;
+    l0.s0.f0 = l25.f0;
+    l0.s0.f1 = l25.f1;
+    l0.s0.f2 = l25.f2;
     return l0;
 }
 
@@ -23109,8 +21963,6 @@ static const struct rt_array_uint8_1 trace_lines__writes__written__l34 = { { UIN
 static inline uint64_t trace_lines__writes__written(rt_slice l1, uint64_t l2, struct core__option__Option__Write l3, rt_slice l4)
 {
     uint64_t l0;
-    struct trace_lines__writes__Write l5;
-    uint64_t l6;
     uint64_t l7;
     uint64_t l8;
     uint64_t l9;
@@ -23143,19 +21995,15 @@ static inline uint64_t trace_lines__writes__written(rt_slice l1, uint64_t l2, st
             break;
         }
         case UINT8_C(1): default: {
-            l5.f0 = l3.s0.f0;
-            l5.f1 = l3.s0.f1;
-            l5.f2 = l3.s0.f2;
-            l12 = (uint64_t)((uint64_t)UINT64_C(32) * (uint64_t)l5.f0);
-            l13 = (uint64_t)((uint64_t)l12 + (uint64_t)l5.f1);
+            l12 = (uint64_t)((uint64_t)UINT64_C(32) * (uint64_t)l3.s0.f0);
+            l13 = (uint64_t)((uint64_t)l12 + (uint64_t)l3.s0.f1);
             l14 = (uint64_t)((uint64_t)l13 * (uint64_t)UINT64_C(8));
             l15 = l4.p + (size_t)l14;
             l16 = (*(uint64_t *)l15);
-            l6 = l16;
             l17 = (uint8_t *)&(*(uint8_t *)l1.p);
             l18.p = l17;
             l18.n = l1.n;
-            l7 = trace_lines__writes__place(l18, l2, l5.f0, l5.f1);
+            l7 = trace_lines__writes__place(l18, l2, l3.s0.f0, l3.s0.f1);
             l19 = (uint8_t *)&(*(uint8_t *)l1.p);
             l20.p = l19;
             l20.n = l1.n;
@@ -23167,7 +22015,7 @@ static inline uint64_t trace_lines__writes__written(rt_slice l1, uint64_t l2, st
             l24 = (uint8_t *)&(*(uint8_t *)l1.p);
             l25.p = l24;
             l25.n = l1.n;
-            l9 = trace_lines__parts__worth(l25, l8, l5.f2);
+            l9 = trace_lines__parts__worth(l25, l8, l3.s0.f2);
             l26 = (uint8_t *)&(*(uint8_t *)l1.p);
             l27.p = l26;
             l27.n = l1.n;
@@ -23179,7 +22027,7 @@ static inline uint64_t trace_lines__writes__written(rt_slice l1, uint64_t l2, st
             l31 = (uint8_t *)&(*(uint8_t *)l1.p);
             l32.p = l31;
             l32.n = l1.n;
-            l11 = trace_lines__parts__worth(l32, l10, l6);
+            l11 = trace_lines__parts__worth(l32, l10, l16);
             break;
         }
     }
@@ -23223,7 +22071,7 @@ static inline uint8_t types__is_type(uint8_t l1, uint8_t l2)
     return l0;
 }
 
-static RT_HERE uint8_t types__refusal__U8FromRefusal__from(struct types__refusal__Refusal l1)
+static RT_WITHIN uint8_t types__refusal__U8FromRefusal__from(struct types__refusal__Refusal l1)
 {
     uint8_t l0;
     uint8_t l2;
@@ -23348,7 +22196,7 @@ static inline uint8_t types__struct_of(uint8_t l1)
     return l0;
 }
 
-static RT_HERE struct types__refusal__Refusal uses__RefusalFromNoProgram__from(struct uses__NoProgram l1)
+static RT_WITHIN struct types__refusal__Refusal uses__RefusalFromNoProgram__from(struct uses__NoProgram l1)
 {
     struct types__refusal__Refusal l0;
     (void)l1;
@@ -23363,12 +22211,6 @@ static RT_HERE struct core__option__Option__rt_tuple2_uses_Scope_Option_u8 uses_
     uint8_t *l4;
     uint64_t l5;
     uint8_t l6;
-    uint64_t l7;
-    uint64_t l8;
-    uint64_t l9;
-    uint64_t l10;
-    uint64_t l11;
-    uint64_t l12;
     struct uses__Scope l13;
     struct core__option__Option__u8 l14;
     struct rt_tuple2__uses_Scope_Option_u8 l15;
@@ -23380,24 +22222,31 @@ static RT_HERE struct core__option__Option__rt_tuple2_uses_Scope_Option_u8 uses_
         return l0;
     }
     l3 = (uint64_t)((uint64_t)l2.f0 + (uint64_t)UINT64_C(1));
-    l7 = l2.f1;
-    l8 = l2.f2;
-    l9 = l2.f3;
-    l10 = l2.f4;
-    l11 = l2.f5;
-    l12 = l2.f6;
     l13.f0 = l3;
-    l13.f1 = l7;
-    l13.f2 = l8;
-    l13.f3 = l9;
-    l13.f4 = l10;
-    l13.f5 = l11;
-    l13.f6 = l12;
+    l13.f1 = l2.f1;
+    l13.f2 = l2.f2;
+    l13.f3 = l2.f3;
+    l13.f4 = l2.f4;
+    l13.f5 = l2.f5;
+    l13.f6 = l2.f6;
     l14.tag = UINT8_C(0);
-    l15.f0 = l13;
+    l15.f0.f0 = l13.f0;
+    l15.f0.f1 = l13.f1;
+    l15.f0.f2 = l13.f2;
+    l15.f0.f3 = l13.f3;
+    l15.f0.f4 = l13.f4;
+    l15.f0.f5 = l13.f5;
+    l15.f0.f6 = l13.f6;
     l15.f1 = l14;
     l0.tag = UINT8_C(1);
-    l0.s0 = l15;
+    l0.s0.f0.f0 = l15.f0.f0;
+    l0.s0.f0.f1 = l15.f0.f1;
+    l0.s0.f0.f2 = l15.f0.f2;
+    l0.s0.f0.f3 = l15.f0.f3;
+    l0.s0.f0.f4 = l15.f0.f4;
+    l0.s0.f0.f5 = l15.f0.f5;
+    l0.s0.f0.f6 = l15.f0.f6;
+    l0.s0.f1 = l15.f1;
     return l0;
 }
 
@@ -23406,38 +22255,40 @@ static RT_HERE struct core__option__Option__rt_tuple2_u8_u64 uses__book__Book__c
     struct core__option__Option__rt_tuple2_u8_u64 l0;
     uint64_t l5;
     uint8_t l6;
-    struct uses__book__Book l7;
     uint8_t *l8;
     uint64_t l9;
     uint8_t *l10;
     uint64_t l11;
-    struct uses__book__Book l12;
     l6 = (uint8_t)(l3 == UINT8_C(49));
     if (l6) {
-        l7.f0 = l1.f0;
-        l7.f1 = l1.f1;
         l8 = l1.f1.p + (size_t)UINT64_C(2568);
         l9 = (*(uint64_t *)l8);
-        l0 = uses__book__Book__listed(l7, UINT64_C(0), l9, l2, l4);
+        {
+            struct core__option__Option__rt_tuple2_u8_u64 r = uses__book__Book__listed(l1, UINT64_C(0), l9, l2, l4);
+            l0.tag = r.tag;
+            l0.s0.f0 = r.s0.f0;
+            l0.s0.f1 = r.s0.f1;
+        }
         return l0;
     }
     l10 = l1.f1.p + (size_t)UINT64_C(2576);
     l11 = (*(uint64_t *)l10);
     l5 = (uint64_t)((uint64_t)UINT64_C(289) + (uint64_t)l11);
-    l12.f0 = l1.f0;
-    l12.f1 = l1.f1;
-    l0 = uses__book__Book__listed(l12, UINT64_C(289), l5, l2, l4);
+    {
+        struct core__option__Option__rt_tuple2_u8_u64 r = uses__book__Book__listed(l1, UINT64_C(289), l5, l2, l4);
+        l0.tag = r.tag;
+        l0.s0.f0 = r.s0.f0;
+        l0.s0.f1 = r.s0.f1;
+    }
     return l0;
 }
 
 static RT_HERE struct core__option__Option__rt_tuple2_uses_Scope_Option_u8 uses__book__Book__declare(struct uses__book__Book l1, rt_slice l2, uint64_t l3, struct uses__Scope l4)
 {
     struct core__option__Option__rt_tuple2_uses_Scope_Option_u8 l0;
-    uint64_t l5;
     uint64_t l6;
     struct uses__Scope l7;
     uint8_t l8;
-    struct uses__book__Book l9;
     uint8_t *l10;
     rt_slice l11;
     uint8_t l12;
@@ -23445,27 +22296,20 @@ static RT_HERE struct core__option__Option__rt_tuple2_uses_Scope_Option_u8 uses_
     uint8_t *l15;
     rt_slice l16;
     uint64_t l17;
-    uint64_t l18;
-    uint64_t l19;
-    uint64_t l20;
-    uint64_t l21;
     uint8_t l22;
     struct core__option__Option__u8 l23;
     struct rt_tuple2__uses_Scope_Option_u8 l24;
-    l5 = l4.f1;
-    l9.f0 = l1.f0;
-    l9.f1 = l1.f1;
     l10 = (uint8_t *)&(*(uint64_t *)l2.p);
     l11.p = l10;
     l11.n = l2.n;
-    l8 = uses__book__Book__unused(l9, l11, l3, l5, l4.f0);
+    l8 = uses__book__Book__unused(l1, l11, l3, l4.f1, l4.f0);
     l12 = (uint8_t)!l8;
     if (l12) {
         l0.tag = UINT8_C(0);
         return l0;
     }
     l13 = (uint64_t)((uint64_t)UINT64_C(16) - (uint64_t)UINT64_C(8));
-    l8 = (uint8_t)(l13 <= l5);
+    l8 = (uint8_t)(l13 <= l4.f1);
     if (l8) {
         l0.tag = UINT8_C(0);
         return l0;
@@ -23474,28 +22318,37 @@ static RT_HERE struct core__option__Option__rt_tuple2_uses_Scope_Option_u8 uses_
     l15 = (uint8_t *)&(*(uint64_t *)l2.p);
     l16.p = l15;
     l16.n = l2.n;
-    uses__passing__store(l16, l3, l5, l6, l4.f4);
-    l13 = (uint64_t)((uint64_t)l5 + (uint64_t)UINT64_C(1));
+    uses__passing__store(l16, l3, l4.f1, l6, l4.f4);
+    l13 = (uint64_t)((uint64_t)l4.f1 + (uint64_t)UINT64_C(1));
     l17 = (uint64_t)((uint64_t)l6 + (uint64_t)UINT64_C(1));
-    l18 = l4.f0;
-    l19 = l4.f4;
-    l20 = l4.f5;
-    l21 = l4.f6;
-    l7.f0 = l18;
+    l7.f0 = l4.f0;
     l7.f1 = l13;
     l7.f2 = l17;
     l7.f3 = UINT64_C(1);
-    l7.f4 = l19;
-    l7.f5 = l20;
-    l7.f6 = l21;
-    l13 = (uint64_t)((uint64_t)UINT64_C(8) + (uint64_t)l5);
+    l7.f4 = l4.f4;
+    l7.f5 = l4.f5;
+    l7.f6 = l4.f6;
+    l13 = (uint64_t)((uint64_t)UINT64_C(8) + (uint64_t)l4.f1);
     l22 = (uint8_t)l13;
     l23.tag = UINT8_C(1);
     l23.s0 = l22;
-    l24.f0 = l7;
+    l24.f0.f0 = l7.f0;
+    l24.f0.f1 = l7.f1;
+    l24.f0.f2 = l7.f2;
+    l24.f0.f3 = l7.f3;
+    l24.f0.f4 = l7.f4;
+    l24.f0.f5 = l7.f5;
+    l24.f0.f6 = l7.f6;
     l24.f1 = l23;
     l0.tag = UINT8_C(1);
-    l0.s0 = l24;
+    l0.s0.f0.f0 = l24.f0.f0;
+    l0.s0.f0.f1 = l24.f0.f1;
+    l0.s0.f0.f2 = l24.f0.f2;
+    l0.s0.f0.f3 = l24.f0.f3;
+    l0.s0.f0.f4 = l24.f0.f4;
+    l0.s0.f0.f5 = l24.f0.f5;
+    l0.s0.f0.f6 = l24.f0.f6;
+    l0.s0.f1 = l24.f1;
     return l0;
 }
 
@@ -23503,43 +22356,47 @@ static RT_HERE struct core__option__Option__rt_tuple2_uses_Scope_Option_u8 uses_
 {
     struct core__option__Option__rt_tuple2_uses_Scope_Option_u8 l0;
     struct core__option__Option__rt_tuple2_uses_Scope_Option_u8 l6;
-    struct uses__book__Book l7;
     struct core__option__Option__u8 l8;
     struct rt_tuple2__uses_Scope_Option_u8 l9;
     struct core__option__Option__rt_tuple2_u8_u64 l10;
-    struct uses__book__Book l11;
-    struct uses__book__Book l12;
     uint8_t *l13;
     rt_slice l14;
     switch (l4) {
         case UINT8_C(39): {
-            l7.f0 = l1.f0;
-            l7.f1 = l1.f1;
-            l6 = uses__book__Book__begin(l7, l5);
+            l6 = uses__book__Book__begin(l1, l5);
             break;
         }
         case UINT8_C(40): {
             l8.tag = UINT8_C(0);
-            l9.f0 = l5;
+            l9.f0.f0 = l5.f0;
+            l9.f0.f1 = l5.f1;
+            l9.f0.f2 = l5.f2;
+            l9.f0.f3 = l5.f3;
+            l9.f0.f4 = l5.f4;
+            l9.f0.f5 = l5.f5;
+            l9.f0.f6 = l5.f6;
             l9.f1 = l8;
             l6.tag = UINT8_C(1);
-            l6.s0 = l9;
+            l6.s0.f0.f0 = l9.f0.f0;
+            l6.s0.f0.f1 = l9.f0.f1;
+            l6.s0.f0.f2 = l9.f0.f2;
+            l6.s0.f0.f3 = l9.f0.f3;
+            l6.s0.f0.f4 = l9.f0.f4;
+            l6.s0.f0.f5 = l9.f0.f5;
+            l6.s0.f0.f6 = l9.f0.f6;
+            l6.s0.f1 = l9.f1;
             break;
         }
         case UINT8_C(41): {
-            l11.f0 = l1.f0;
-            l11.f1 = l1.f1;
-            l10 = uses__book__Book__called(l11, l3, l4, l5.f4);
+            l10 = uses__book__Book__called(l1, l3, l4, l5.f4);
             l6 = uses__passing__left(l5, l10);
             break;
         }
         default: {
-            l12.f0 = l1.f0;
-            l12.f1 = l1.f1;
             l13 = (uint8_t *)&(*(uint64_t *)l2.p);
             l14.p = l13;
             l14.n = l2.n;
-            l6 = uses__book__Book__declare(l12, l14, l3, l5);
+            l6 = uses__book__Book__declare(l1, l14, l3, l5);
             break;
         }
     }
@@ -23551,36 +22408,32 @@ static RT_HERE struct core__option__Option__rt_tuple2_u8_u64 uses__book__Book__f
 {
     struct core__option__Option__rt_tuple2_u8_u64 l0;
     uint64_t l5;
-    struct rt_tuple2__u8_u64 l6;
     uint8_t l7;
-    rt_slice l8;
     struct core__option__Option__rt_tuple2_u8_u64 l9;
-    struct uses__book__Book l10;
     uint64_t l11;
     struct core__option__Option__rt_tuple2_u8_u64 l12;
-    rt_slice l13;
     l5 = (uint64_t)((uint64_t)l4.f2 - (uint64_t)l4.f3);
     l7 = (uint8_t)(l4.f0 == UINT64_C(0));
     if (l7) {
-        l8 = l1.f0;
-        l0 = uses__looked__local(l8, l2, l5, l3);
+        {
+            struct core__option__Option__rt_tuple2_u8_u64 r = uses__looked__local(l1.f0, l2, l5, l3);
+            l0.tag = r.tag;
+            l0.s0.f0 = r.s0.f0;
+            l0.s0.f1 = r.s0.f1;
+        }
         return l0;
     }
-    l10.f0 = l1.f0;
-    l10.f1 = l1.f1;
     l11 = (uint64_t)((uint64_t)l4.f0 - (uint64_t)UINT64_C(1));
-    l9 = uses__book__Book__parameter(l10, l11, l3);
+    l9 = uses__book__Book__parameter(l1, l11, l3);
     switch (l9.tag) {
         case UINT8_C(1): {
-            l6.f0 = l9.s0.f0;
-            l6.f1 = l9.s0.f1;
             l12.tag = UINT8_C(1);
-            l12.s0 = l6;
+            l12.s0.f0 = l9.s0.f0;
+            l12.s0.f1 = l9.s0.f1;
             break;
         }
         case UINT8_C(0): default: {
-            l13 = l1.f0;
-            l12 = uses__looked__local(l13, l2, l5, l3);
+            l12 = uses__looked__local(l1.f0, l2, l5, l3);
             break;
         }
     }
@@ -23591,93 +22444,86 @@ static RT_HERE struct core__option__Option__rt_tuple2_u8_u64 uses__book__Book__f
 static RT_HERE struct core__option__Option__rt_tuple2_u8_u64 uses__book__Book__later(struct uses__book__Book l1, uint64_t l2, uint64_t l3)
 {
     struct core__option__Option__rt_tuple2_u8_u64 l0;
-    uint64_t l4;
-    uint64_t l5;
-    struct core__option__NoValue l6;
     struct core__ops__ControlFlow__NoValue_u64 l7;
     struct core__option__Option__u64 l8;
     uint64_t l9;
-    uint64_t l10;
     uint8_t *l11;
     uint8_t l12;
-    struct uses__book__Book l13;
     l9 = core__convert__UsizeFromU8__from(UINT8_C(16));
     l8 = core__int__checked__usize__checked_sub(l3, l9);
     l7 = core__option__OptionTry__branch__u64(l8);
     switch (l7.tag) {
         case UINT8_C(0): {
-            l5 = l7.s0;
-            l10 = l5;
             break;
         }
         case UINT8_C(1): default: {
-            l6 = l7.s1;
-            l0 = core__option__OptionFromResidualNoValue__from_residual_e4dc67fa(l6);
+            {
+                struct core__option__Option__rt_tuple2_u8_u64 r = core__option__OptionFromResidualNoValue__from_residual_e4dc67fa(l7.s1);
+                l0.tag = r.tag;
+                l0.s0.f0 = r.s0.f0;
+                l0.s0.f1 = r.s0.f1;
+            }
             return l0;
             break;
         }
     }
-    l4 = l10;
     l11 = l1.f1.p + (size_t)UINT64_C(2568);
     l9 = (*(uint64_t *)l11);
-    l12 = (uint8_t)(l9 <= l4);
+    l12 = (uint8_t)(l9 <= l7.s0);
     if (l12) {
         l0.tag = UINT8_C(0);
         return l0;
     }
-    l13.f0 = l1.f0;
-    l13.f1 = l1.f1;
-    l0 = uses__book__Book__parameter(l13, l4, l2);
+    {
+        struct core__option__Option__rt_tuple2_u8_u64 r = uses__book__Book__parameter(l1, l7.s0, l2);
+        l0.tag = r.tag;
+        l0.s0.f0 = r.s0.f0;
+        l0.s0.f1 = r.s0.f1;
+    }
     return l0;
 }
 
 static RT_HERE struct core__option__Option__rt_tuple2_u8_u64 uses__book__Book__listed(struct uses__book__Book l1, uint64_t l2, uint64_t l3, uint64_t l4, uint64_t l5)
 {
     struct core__option__Option__rt_tuple2_u8_u64 l0;
-    uint64_t l6;
-    uint64_t l7;
-    struct core__option__NoValue l8;
     struct core__ops__ControlFlow__NoValue_u64 l9;
     struct core__option__Option__u64 l10;
-    rt_slice l11;
-    rt_slice l12;
     uint64_t l13;
     uint8_t *l14;
     uint64_t l15;
     uint8_t *l16;
     rt_slice l17;
-    uint64_t l18;
     uint8_t l19;
     struct rt_tuple2__u8_u64 l20;
-    l11 = l1.f0;
-    l12 = l1.f1;
     l13 = (uint64_t)((uint64_t)l2 * (uint64_t)UINT64_C(8));
-    l14 = l12.p + (size_t)l13;
+    l14 = l1.f1.p + (size_t)l13;
     l15 = (uint64_t)((uint64_t)l3 - (uint64_t)l2);
     l16 = (uint8_t *)&(*(uint64_t *)l14);
     l17.p = l16;
     l17.n = l15;
-    l10 = resolve__names__lookup(l11, l17, l4);
+    l10 = resolve__names__lookup(l1.f0, l17, l4);
     l9 = core__option__OptionTry__branch__u64(l10);
     switch (l9.tag) {
         case UINT8_C(0): {
-            l7 = l9.s0;
-            l18 = l7;
             break;
         }
         case UINT8_C(1): default: {
-            l8 = l9.s1;
-            l0 = core__option__OptionFromResidualNoValue__from_residual_e4dc67fa(l8);
+            {
+                struct core__option__Option__rt_tuple2_u8_u64 r = core__option__OptionFromResidualNoValue__from_residual_e4dc67fa(l9.s1);
+                l0.tag = r.tag;
+                l0.s0.f0 = r.s0.f0;
+                l0.s0.f1 = r.s0.f1;
+            }
             return l0;
             break;
         }
     }
-    l6 = l18;
-    l19 = (uint8_t)l6;
+    l19 = (uint8_t)l9.s0;
     l20.f0 = l19;
     l20.f1 = l5;
     l0.tag = UINT8_C(1);
-    l0.s0 = l20;
+    l0.s0.f0 = l20.f0;
+    l0.s0.f1 = l20.f1;
     return l0;
 }
 
@@ -23685,21 +22531,14 @@ static RT_HERE struct core__option__Option__rt_tuple2_uses_Scope_Option_u8 uses_
 {
     struct core__option__Option__rt_tuple2_uses_Scope_Option_u8 l0;
     uint64_t l5;
-    uint64_t l6;
-    uint64_t l7;
-    struct core__option__NoValue l8;
-    uint64_t l9;
     uint64_t l10;
     uint8_t *l11;
     uint64_t l12;
     struct core__ops__ControlFlow__NoValue_u64 l13;
     struct core__option__Option__u64 l14;
-    rt_slice l15;
-    rt_slice l16;
     uint8_t *l17;
     uint8_t *l18;
     rt_slice l19;
-    uint64_t l20;
     uint64_t l21;
     uint64_t l22;
     uint8_t *l23;
@@ -23711,76 +22550,82 @@ static RT_HERE struct core__option__Option__rt_tuple2_uses_Scope_Option_u8 uses_
     uint64_t l29;
     uint8_t l30;
     uint8_t *l31;
-    uint64_t l32;
-    uint64_t l33;
-    uint64_t l34;
-    uint64_t l35;
-    uint64_t l36;
-    uint64_t l37;
     struct uses__Scope l38;
     struct core__option__Option__u8 l39;
     struct rt_tuple2__uses_Scope_Option_u8 l40;
     l11 = l1.f1.p + (size_t)UINT64_C(2568);
     l12 = (*(uint64_t *)l11);
     l5 = l12;
-    l15 = l1.f0;
-    l16 = l1.f1;
-    l17 = l16.p + (size_t)UINT64_C(0);
+    l17 = l1.f1.p + (size_t)UINT64_C(0);
     l12 = (uint64_t)((uint64_t)l5 - (uint64_t)UINT64_C(0));
     l18 = (uint8_t *)&(*(uint64_t *)l17);
     l19.p = l18;
     l19.n = l12;
-    l14 = resolve__names__lookup(l15, l19, l3);
+    l14 = resolve__names__lookup(l1.f0, l19, l3);
     l13 = core__option__OptionTry__branch__u64(l14);
     switch (l13.tag) {
         case UINT8_C(0): {
-            l7 = l13.s0;
-            l20 = l7;
             break;
         }
         case UINT8_C(1): default: {
-            l8 = l13.s1;
-            l0 = core__option__OptionFromResidualNoValue__from_residual_e7cc27ad(l8);
+            {
+                struct core__option__Option__rt_tuple2_uses_Scope_Option_u8 r = core__option__OptionFromResidualNoValue__from_residual_e7cc27ad(l13.s1);
+                l0.tag = r.tag;
+                l0.s0.f0.f0 = r.s0.f0.f0;
+                l0.s0.f0.f1 = r.s0.f0.f1;
+                l0.s0.f0.f2 = r.s0.f0.f2;
+                l0.s0.f0.f3 = r.s0.f0.f3;
+                l0.s0.f0.f4 = r.s0.f0.f4;
+                l0.s0.f0.f5 = r.s0.f0.f5;
+                l0.s0.f0.f6 = r.s0.f0.f6;
+                l0.s0.f1.tag = r.s0.f1.tag;
+                l0.s0.f1.s0 = r.s0.f1.s0;
+            }
             return l0;
             break;
         }
     }
-    l6 = l20;
-    l9 = l4.f5;
-    l12 = (uint64_t)((uint64_t)UINT64_C(16) + (uint64_t)l6);
+    l12 = (uint64_t)((uint64_t)UINT64_C(16) + (uint64_t)l13.s0);
     l21 = (uint64_t)((uint64_t)l12 + (uint64_t)UINT64_C(1));
     l22 = (uint64_t)((uint64_t)l21 * (uint64_t)UINT64_C(8));
     l23 = l1.f1.p + (size_t)l22;
     l24 = (*(uint64_t *)l23);
-    l25 = (uint64_t)((uint64_t)UINT64_C(16) + (uint64_t)l6);
+    l25 = (uint64_t)((uint64_t)UINT64_C(16) + (uint64_t)l13.s0);
     l26 = (uint64_t)((uint64_t)l25 * (uint64_t)UINT64_C(8));
     l27 = l1.f1.p + (size_t)l26;
     l28 = (*(uint64_t *)l27);
     l29 = (uint64_t)((uint64_t)l24 - (uint64_t)l28);
     l30 = (uint8_t)l29;
-    l31 = l2.p + (size_t)l9;
+    l31 = l2.p + (size_t)l4.f5;
     (*(uint8_t *)l31) = l30;
-    l10 = (uint64_t)((uint64_t)l9 + (uint64_t)UINT64_C(1));
-    l32 = l4.f0;
-    l33 = l4.f1;
-    l34 = l4.f2;
-    l35 = l4.f3;
-    l36 = l4.f4;
-    l37 = l4.f6;
-    l38.f0 = l32;
-    l38.f1 = l33;
-    l38.f2 = l34;
-    l38.f3 = l35;
-    l38.f4 = l36;
+    l10 = (uint64_t)((uint64_t)l4.f5 + (uint64_t)UINT64_C(1));
+    l38.f0 = l4.f0;
+    l38.f1 = l4.f1;
+    l38.f2 = l4.f2;
+    l38.f3 = l4.f3;
+    l38.f4 = l4.f4;
     l38.f5 = l10;
-    l38.f6 = l37;
-    l30 = (uint8_t)l6;
+    l38.f6 = l4.f6;
+    l30 = (uint8_t)l13.s0;
     l39.tag = UINT8_C(1);
     l39.s0 = l30;
-    l40.f0 = l38;
+    l40.f0.f0 = l38.f0;
+    l40.f0.f1 = l38.f1;
+    l40.f0.f2 = l38.f2;
+    l40.f0.f3 = l38.f3;
+    l40.f0.f4 = l38.f4;
+    l40.f0.f5 = l38.f5;
+    l40.f0.f6 = l38.f6;
     l40.f1 = l39;
     l0.tag = UINT8_C(1);
-    l0.s0 = l40;
+    l0.s0.f0.f0 = l40.f0.f0;
+    l0.s0.f0.f1 = l40.f0.f1;
+    l0.s0.f0.f2 = l40.f0.f2;
+    l0.s0.f0.f3 = l40.f0.f3;
+    l0.s0.f0.f4 = l40.f0.f4;
+    l0.s0.f0.f5 = l40.f0.f5;
+    l0.s0.f0.f6 = l40.f0.f6;
+    l0.s0.f1 = l40.f1;
     return l0;
 }
 
@@ -23789,17 +22634,14 @@ static inline uint8_t uses__book__Book__no_parameter(struct uses__book__Book l1,
     uint8_t l0;
     uint8_t l4;
     struct core__option__Option__rt_tuple2_u8_u64 l5;
-    struct uses__book__Book l6;
     uint64_t l7;
     struct core__option__Option__rt_tuple2_u8_u64 l8;
     uint8_t *l9;
     l4 = (uint8_t)(l2 == UINT64_C(0));
     if (l4) {
     } else {
-        l6.f0 = l1.f0;
-        l6.f1 = l1.f1;
         l7 = (uint64_t)((uint64_t)l2 - (uint64_t)UINT64_C(1));
-        l5 = uses__book__Book__parameter(l6, l7, l3);
+        l5 = uses__book__Book__parameter(l1, l7, l3);
         l8 = l5;
         l9 = (uint8_t *)&l8;
         l4 = core__option__Option__is_none__rt_tuple2_u8_u64(l9);
@@ -23813,9 +22655,6 @@ static RT_HERE struct core__option__Option__rt_tuple2_u8_u64 uses__book__Book__p
     struct core__option__Option__rt_tuple2_u8_u64 l0;
     uint64_t l4;
     uint64_t l5;
-    uint64_t l6;
-    uint64_t l7;
-    struct core__option__NoValue l8;
     uint64_t l9;
     uint64_t l10;
     uint8_t *l11;
@@ -23824,12 +22663,9 @@ static RT_HERE struct core__option__Option__rt_tuple2_u8_u64 uses__book__Book__p
     uint64_t l14;
     struct core__ops__ControlFlow__NoValue_u64 l15;
     struct core__option__Option__u64 l16;
-    rt_slice l17;
-    rt_slice l18;
     uint8_t *l19;
     uint8_t *l20;
     rt_slice l21;
-    uint64_t l22;
     uint8_t l23;
     uint8_t *l24;
     struct rt_tuple2__u8_u64 l25;
@@ -23844,32 +22680,31 @@ static RT_HERE struct core__option__Option__rt_tuple2_u8_u64 uses__book__Book__p
     l13 = l1.f1.p + (size_t)l10;
     l14 = (*(uint64_t *)l13);
     l5 = (uint64_t)((uint64_t)UINT64_C(33) + (uint64_t)l14);
-    l17 = l1.f0;
-    l18 = l1.f1;
     l9 = (uint64_t)((uint64_t)l4 * (uint64_t)UINT64_C(8));
-    l19 = l18.p + (size_t)l9;
+    l19 = l1.f1.p + (size_t)l9;
     l14 = (uint64_t)((uint64_t)l5 - (uint64_t)l4);
     l20 = (uint8_t *)&(*(uint64_t *)l19);
     l21.p = l20;
     l21.n = l14;
-    l16 = resolve__names__lookup(l17, l21, l3);
+    l16 = resolve__names__lookup(l1.f0, l21, l3);
     l15 = core__option__OptionTry__branch__u64(l16);
     switch (l15.tag) {
         case UINT8_C(0): {
-            l7 = l15.s0;
-            l22 = l7;
             break;
         }
         case UINT8_C(1): default: {
-            l8 = l15.s1;
-            l0 = core__option__OptionFromResidualNoValue__from_residual_e4dc67fa(l8);
+            {
+                struct core__option__Option__rt_tuple2_u8_u64 r = core__option__OptionFromResidualNoValue__from_residual_e4dc67fa(l15.s1);
+                l0.tag = r.tag;
+                l0.s0.f0 = r.s0.f0;
+                l0.s0.f1 = r.s0.f1;
+            }
             return l0;
             break;
         }
     }
-    l6 = l22;
-    l23 = (uint8_t)l6;
-    l10 = (uint64_t)((uint64_t)l4 + (uint64_t)l6);
+    l23 = (uint8_t)l15.s0;
+    l10 = (uint64_t)((uint64_t)l4 + (uint64_t)l15.s0);
     l14 = (uint64_t)((uint64_t)l10 + (uint64_t)UINT64_C(128));
     l9 = (uint64_t)((uint64_t)l14 * (uint64_t)UINT64_C(8));
     l24 = l1.f1.p + (size_t)l9;
@@ -23877,7 +22712,8 @@ static RT_HERE struct core__option__Option__rt_tuple2_u8_u64 uses__book__Book__p
     l25.f0 = l23;
     l25.f1 = l12;
     l0.tag = UINT8_C(1);
-    l0.s0 = l25;
+    l0.s0.f0 = l25.f0;
+    l0.s0.f1 = l25.f1;
     return l0;
 }
 
@@ -23891,8 +22727,6 @@ static RT_HERE struct core__option__Option__rt_tuple2_uses_Scope_Option_u8 uses_
     struct rt_tuple2__uses_Scope_Option_u8 l9;
     uint8_t *l10;
     uint64_t l11;
-    rt_slice l12;
-    rt_slice l13;
     uint8_t *l14;
     uint8_t *l15;
     rt_slice l16;
@@ -23903,24 +22737,35 @@ static RT_HERE struct core__option__Option__rt_tuple2_uses_Scope_Option_u8 uses_
     l7 = (uint8_t)(l3 < UINT8_C(55));
     if (l7) {
         l8.tag = UINT8_C(0);
-        l9.f0 = l4;
+        l9.f0.f0 = l4.f0;
+        l9.f0.f1 = l4.f1;
+        l9.f0.f2 = l4.f2;
+        l9.f0.f3 = l4.f3;
+        l9.f0.f4 = l4.f4;
+        l9.f0.f5 = l4.f5;
+        l9.f0.f6 = l4.f6;
         l9.f1 = l8;
         l0.tag = UINT8_C(1);
-        l0.s0 = l9;
+        l0.s0.f0.f0 = l9.f0.f0;
+        l0.s0.f0.f1 = l9.f0.f1;
+        l0.s0.f0.f2 = l9.f0.f2;
+        l0.s0.f0.f3 = l9.f0.f3;
+        l0.s0.f0.f4 = l9.f0.f4;
+        l0.s0.f0.f5 = l9.f0.f5;
+        l0.s0.f0.f6 = l9.f0.f6;
+        l0.s0.f1 = l9.f1;
         return l0;
     }
     l10 = l1.f1.p + (size_t)UINT64_C(2568);
     l11 = (*(uint64_t *)l10);
     l5 = l11;
-    l12 = l1.f0;
-    l13 = l1.f1;
-    l14 = l13.p + (size_t)UINT64_C(0);
+    l14 = l1.f1.p + (size_t)UINT64_C(0);
     l11 = (uint64_t)((uint64_t)l5 - (uint64_t)UINT64_C(0));
     l15 = (uint8_t *)&(*(uint64_t *)l14);
     l16.p = l15;
     l16.n = l11;
     l17 = uses__passing__type_number(l3);
-    l6 = resolve__declarations__type_byte(l12, l16, l17, l2);
+    l6 = resolve__declarations__type_byte(l1.f0, l16, l17, l2);
     l11 = core__convert__UsizeFromU8__from(UINT8_C(16));
     l18 = (uint64_t)((uint64_t)l11 + (uint64_t)l5);
     l7 = (uint8_t)(l18 <= l6);
@@ -23932,8 +22777,21 @@ static RT_HERE struct core__option__Option__rt_tuple2_uses_Scope_Option_u8 uses_
     l19.f0 = l17;
     l19.f1 = l6;
     l20.tag = UINT8_C(1);
-    l20.s0 = l19;
-    l0 = uses__passing__left(l4, l20);
+    l20.s0.f0 = l19.f0;
+    l20.s0.f1 = l19.f1;
+    {
+        struct core__option__Option__rt_tuple2_uses_Scope_Option_u8 r = uses__passing__left(l4, l20);
+        l0.tag = r.tag;
+        l0.s0.f0.f0 = r.s0.f0.f0;
+        l0.s0.f0.f1 = r.s0.f0.f1;
+        l0.s0.f0.f2 = r.s0.f0.f2;
+        l0.s0.f0.f3 = r.s0.f0.f3;
+        l0.s0.f0.f4 = r.s0.f0.f4;
+        l0.s0.f0.f5 = r.s0.f0.f5;
+        l0.s0.f0.f6 = r.s0.f0.f6;
+        l0.s0.f1.tag = r.s0.f1.tag;
+        l0.s0.f1.s0 = r.s0.f1.s0;
+    }
     return l0;
 }
 
@@ -23943,7 +22801,6 @@ static inline uint8_t uses__book__Book__unused(struct uses__book__Book l1, rt_sl
     uint64_t l6;
     uint8_t l7;
     struct core__option__Option__u64 l8;
-    rt_slice l9;
     uint64_t l10;
     uint8_t *l11;
     uint64_t l12;
@@ -23951,23 +22808,19 @@ static inline uint8_t uses__book__Book__unused(struct uses__book__Book l1, rt_sl
     rt_slice l14;
     struct core__option__Option__u64 l15;
     uint8_t *l16;
-    struct uses__book__Book l17;
     l6 = (uint64_t)((uint64_t)UINT64_C(8) - (uint64_t)l4);
-    l9 = l1.f0;
     l10 = (uint64_t)((uint64_t)l6 * (uint64_t)UINT64_C(8));
     l11 = l2.p + (size_t)l10;
     l12 = (uint64_t)((uint64_t)UINT64_C(8) - (uint64_t)l6);
     l13 = (uint8_t *)&(*(uint64_t *)l11);
     l14.p = l13;
     l14.n = l12;
-    l8 = resolve__names__lookup(l9, l14, l3);
+    l8 = resolve__names__lookup(l1.f0, l14, l3);
     l15 = l8;
     l16 = (uint8_t *)&l15;
     l7 = core__option__Option__is_none__u64(l16);
     if (l7) {
-        l17.f0 = l1.f0;
-        l17.f1 = l1.f1;
-        l7 = uses__book__Book__no_parameter(l17, l5, l3);
+        l7 = uses__book__Book__no_parameter(l1, l5, l3);
     }
     l0 = l7;
     return l0;
@@ -23980,67 +22833,129 @@ static RT_HERE struct core__option__Option__rt_tuple2_uses_Scope_Option_u8 uses_
     struct core__option__Option__u8 l8;
     struct rt_tuple2__uses_Scope_Option_u8 l9;
     uint8_t l10;
-    rt_slice l11;
-    struct uses__book__Book l12;
     uint8_t *l13;
     rt_slice l14;
-    struct uses__book__Book l15;
     uint8_t *l16;
     rt_slice l17;
     uint8_t *l18;
     rt_slice l19;
-    struct uses__book__Book l20;
     uint8_t *l21;
     rt_slice l22;
     l7 = uses__pass__quiet(l5);
     if (l7) {
         l8.tag = UINT8_C(0);
-        l9.f0 = l6;
+        l9.f0.f0 = l6.f0;
+        l9.f0.f1 = l6.f1;
+        l9.f0.f2 = l6.f2;
+        l9.f0.f3 = l6.f3;
+        l9.f0.f4 = l6.f4;
+        l9.f0.f5 = l6.f5;
+        l9.f0.f6 = l6.f6;
         l9.f1 = l8;
         l0.tag = UINT8_C(1);
-        l0.s0 = l9;
+        l0.s0.f0.f0 = l9.f0.f0;
+        l0.s0.f0.f1 = l9.f0.f1;
+        l0.s0.f0.f2 = l9.f0.f2;
+        l0.s0.f0.f3 = l9.f0.f3;
+        l0.s0.f0.f4 = l9.f0.f4;
+        l0.s0.f0.f5 = l9.f0.f5;
+        l0.s0.f0.f6 = l9.f0.f6;
+        l0.s0.f1 = l9.f1;
         return l0;
     }
     l10 = (uint8_t)(l5 < UINT8_C(39));
     if (l10) {
-        l11 = l1.f0;
-        l0 = uses__parts__kind_role(l11, l4, l5, l6);
+        {
+            struct core__option__Option__rt_tuple2_uses_Scope_Option_u8 r = uses__parts__kind_role(l1.f0, l4, l5, l6);
+            l0.tag = r.tag;
+            l0.s0.f0.f0 = r.s0.f0.f0;
+            l0.s0.f0.f1 = r.s0.f0.f1;
+            l0.s0.f0.f2 = r.s0.f0.f2;
+            l0.s0.f0.f3 = r.s0.f0.f3;
+            l0.s0.f0.f4 = r.s0.f0.f4;
+            l0.s0.f0.f5 = r.s0.f0.f5;
+            l0.s0.f0.f6 = r.s0.f0.f6;
+            l0.s0.f1.tag = r.s0.f1.tag;
+            l0.s0.f1.s0 = r.s0.f1.s0;
+        }
         return l0;
     }
     l10 = (uint8_t)(l5 < UINT8_C(43));
     if (l10) {
-        l12.f0 = l1.f0;
-        l12.f1 = l1.f1;
         l13 = (uint8_t *)&(*(uint64_t *)l2.p);
         l14.p = l13;
         l14.n = l2.n;
-        l0 = uses__book__Book__declared_name(l12, l14, l4, l5, l6);
+        {
+            struct core__option__Option__rt_tuple2_uses_Scope_Option_u8 r = uses__book__Book__declared_name(l1, l14, l4, l5, l6);
+            l0.tag = r.tag;
+            l0.s0.f0.f0 = r.s0.f0.f0;
+            l0.s0.f0.f1 = r.s0.f0.f1;
+            l0.s0.f0.f2 = r.s0.f0.f2;
+            l0.s0.f0.f3 = r.s0.f0.f3;
+            l0.s0.f0.f4 = r.s0.f0.f4;
+            l0.s0.f0.f5 = r.s0.f0.f5;
+            l0.s0.f0.f6 = r.s0.f0.f6;
+            l0.s0.f1.tag = r.s0.f1.tag;
+            l0.s0.f1.s0 = r.s0.f1.s0;
+        }
         return l0;
     }
     l10 = (uint8_t)(l5 < UINT8_C(51));
     if (l10) {
-        l15.f0 = l1.f0;
-        l15.f1 = l1.f1;
         l16 = (uint8_t *)&(*(uint64_t *)l2.p);
         l17.p = l16;
         l17.n = l2.n;
         l18 = (uint8_t *)&(*(uint8_t *)l3.p);
         l19.p = l18;
         l19.n = l3.n;
-        l0 = uses__book__Book__used_name(l15, l17, l19, l4, l5, l6);
+        {
+            struct core__option__Option__rt_tuple2_uses_Scope_Option_u8 r = uses__book__Book__used_name(l1, l17, l19, l4, l5, l6);
+            l0.tag = r.tag;
+            l0.s0.f0.f0 = r.s0.f0.f0;
+            l0.s0.f0.f1 = r.s0.f0.f1;
+            l0.s0.f0.f2 = r.s0.f0.f2;
+            l0.s0.f0.f3 = r.s0.f0.f3;
+            l0.s0.f0.f4 = r.s0.f0.f4;
+            l0.s0.f0.f5 = r.s0.f0.f5;
+            l0.s0.f0.f6 = r.s0.f0.f6;
+            l0.s0.f1.tag = r.s0.f1.tag;
+            l0.s0.f1.s0 = r.s0.f1.s0;
+        }
         return l0;
     }
     l10 = (uint8_t)(l5 < UINT8_C(63));
     if (l10) {
-        l20.f0 = l1.f0;
-        l20.f1 = l1.f1;
-        l0 = uses__book__Book__type_role(l20, l4, l5, l6);
+        {
+            struct core__option__Option__rt_tuple2_uses_Scope_Option_u8 r = uses__book__Book__type_role(l1, l4, l5, l6);
+            l0.tag = r.tag;
+            l0.s0.f0.f0 = r.s0.f0.f0;
+            l0.s0.f0.f1 = r.s0.f0.f1;
+            l0.s0.f0.f2 = r.s0.f0.f2;
+            l0.s0.f0.f3 = r.s0.f0.f3;
+            l0.s0.f0.f4 = r.s0.f0.f4;
+            l0.s0.f0.f5 = r.s0.f0.f5;
+            l0.s0.f0.f6 = r.s0.f0.f6;
+            l0.s0.f1.tag = r.s0.f1.tag;
+            l0.s0.f1.s0 = r.s0.f1.s0;
+        }
         return l0;
     }
     l21 = (uint8_t *)&(*(uint8_t *)l3.p);
     l22.p = l21;
     l22.n = l3.n;
-    l0 = uses__parts__part_role(l22, l5, l6);
+    {
+        struct core__option__Option__rt_tuple2_uses_Scope_Option_u8 r = uses__parts__part_role(l22, l5, l6);
+        l0.tag = r.tag;
+        l0.s0.f0.f0 = r.s0.f0.f0;
+        l0.s0.f0.f1 = r.s0.f0.f1;
+        l0.s0.f0.f2 = r.s0.f0.f2;
+        l0.s0.f0.f3 = r.s0.f0.f3;
+        l0.s0.f0.f4 = r.s0.f0.f4;
+        l0.s0.f0.f5 = r.s0.f0.f5;
+        l0.s0.f0.f6 = r.s0.f0.f6;
+        l0.s0.f1.tag = r.s0.f1.tag;
+        l0.s0.f1.s0 = r.s0.f1.s0;
+    }
     return l0;
 }
 
@@ -24049,44 +22964,80 @@ static RT_HERE struct core__option__Option__rt_tuple2_uses_Scope_Option_u8 uses_
     struct core__option__Option__rt_tuple2_uses_Scope_Option_u8 l0;
     uint8_t l7;
     struct core__option__Option__rt_tuple2_u8_u64 l8;
-    struct uses__book__Book l9;
     struct core__option__Option__rt_tuple2_u8_u64 l10;
-    struct uses__book__Book l11;
-    struct uses__book__Book l12;
     uint8_t *l13;
     rt_slice l14;
     struct core__option__Option__rt_tuple2_u8_u64 l15;
-    struct uses__book__Book l16;
     l7 = (uint8_t)(l5 < UINT8_C(45));
     if (l7) {
-        l9.f0 = l1.f0;
-        l9.f1 = l1.f1;
-        l8 = uses__book__Book__first(l9, l2, l4, l6);
-        l0 = uses__passing__left(l6, l8);
+        l8 = uses__book__Book__first(l1, l2, l4, l6);
+        {
+            struct core__option__Option__rt_tuple2_uses_Scope_Option_u8 r = uses__passing__left(l6, l8);
+            l0.tag = r.tag;
+            l0.s0.f0.f0 = r.s0.f0.f0;
+            l0.s0.f0.f1 = r.s0.f0.f1;
+            l0.s0.f0.f2 = r.s0.f0.f2;
+            l0.s0.f0.f3 = r.s0.f0.f3;
+            l0.s0.f0.f4 = r.s0.f0.f4;
+            l0.s0.f0.f5 = r.s0.f0.f5;
+            l0.s0.f0.f6 = r.s0.f0.f6;
+            l0.s0.f1.tag = r.s0.f1.tag;
+            l0.s0.f1.s0 = r.s0.f1.s0;
+        }
         return l0;
     }
     l7 = (uint8_t)(l5 < UINT8_C(46));
     if (l7) {
-        l11.f0 = l1.f0;
-        l11.f1 = l1.f1;
-        l10 = uses__book__Book__later(l11, l4, l6.f4);
-        l0 = uses__passing__left(l6, l10);
+        l10 = uses__book__Book__later(l1, l4, l6.f4);
+        {
+            struct core__option__Option__rt_tuple2_uses_Scope_Option_u8 r = uses__passing__left(l6, l10);
+            l0.tag = r.tag;
+            l0.s0.f0.f0 = r.s0.f0.f0;
+            l0.s0.f0.f1 = r.s0.f0.f1;
+            l0.s0.f0.f2 = r.s0.f0.f2;
+            l0.s0.f0.f3 = r.s0.f0.f3;
+            l0.s0.f0.f4 = r.s0.f0.f4;
+            l0.s0.f0.f5 = r.s0.f0.f5;
+            l0.s0.f0.f6 = r.s0.f0.f6;
+            l0.s0.f1.tag = r.s0.f1.tag;
+            l0.s0.f1.s0 = r.s0.f1.s0;
+        }
         return l0;
     }
     l7 = (uint8_t)(l5 < UINT8_C(48));
     if (l7) {
-        l12.f0 = l1.f0;
-        l12.f1 = l1.f1;
         l13 = (uint8_t *)&(*(uint8_t *)l3.p);
         l14.p = l13;
         l14.n = l3.n;
-        l0 = uses__book__Book__made(l12, l14, l4, l6);
+        {
+            struct core__option__Option__rt_tuple2_uses_Scope_Option_u8 r = uses__book__Book__made(l1, l14, l4, l6);
+            l0.tag = r.tag;
+            l0.s0.f0.f0 = r.s0.f0.f0;
+            l0.s0.f0.f1 = r.s0.f0.f1;
+            l0.s0.f0.f2 = r.s0.f0.f2;
+            l0.s0.f0.f3 = r.s0.f0.f3;
+            l0.s0.f0.f4 = r.s0.f0.f4;
+            l0.s0.f0.f5 = r.s0.f0.f5;
+            l0.s0.f0.f6 = r.s0.f0.f6;
+            l0.s0.f1.tag = r.s0.f1.tag;
+            l0.s0.f1.s0 = r.s0.f1.s0;
+        }
         return l0;
     }
-    l16.f0 = l1.f0;
-    l16.f1 = l1.f1;
-    l15 = uses__book__Book__called(l16, l4, l5, l6.f4);
-    l0 = uses__passing__left(l6, l15);
+    l15 = uses__book__Book__called(l1, l4, l5, l6.f4);
+    {
+        struct core__option__Option__rt_tuple2_uses_Scope_Option_u8 r = uses__passing__left(l6, l15);
+        l0.tag = r.tag;
+        l0.s0.f0.f0 = r.s0.f0.f0;
+        l0.s0.f0.f1 = r.s0.f0.f1;
+        l0.s0.f0.f2 = r.s0.f0.f2;
+        l0.s0.f0.f3 = r.s0.f0.f3;
+        l0.s0.f0.f4 = r.s0.f0.f4;
+        l0.s0.f0.f5 = r.s0.f0.f5;
+        l0.s0.f0.f6 = r.s0.f0.f6;
+        l0.s0.f1.tag = r.s0.f1.tag;
+        l0.s0.f1.s0 = r.s0.f1.s0;
+    }
     return l0;
 }
 
@@ -24097,13 +23048,9 @@ static RT_HERE struct core__result__Result__u64_NoProgram uses__book__Book__uses
     uint64_t l7;
     uint64_t l8;
     uint64_t l9;
-    struct uses__Scope l10;
-    struct uses__Scope l11;
-    uint8_t l12;
     uint64_t l13;
     uint8_t l14;
     struct core__option__Option__rt_tuple2_uses_Scope_Option_u8 l15;
-    struct uses__book__Book l16;
     uint8_t *l17;
     rt_slice l18;
     uint8_t *l19;
@@ -24131,8 +23078,6 @@ static RT_HERE struct core__result__Result__u64_NoProgram uses__book__Book__uses
         l9 = l8;
         l13 = (uint64_t)((uint64_t)l9 + (uint64_t)UINT64_C(1));
         l8 = lexer__gaps__next(l2, l13);
-        l16.f0 = l1.f0;
-        l16.f1 = l1.f1;
         l17 = (uint8_t *)&(*(uint64_t *)l3.p);
         l18.p = l17;
         l18.n = l3.n;
@@ -24141,53 +23086,38 @@ static RT_HERE struct core__result__Result__u64_NoProgram uses__book__Book__uses
         l20.n = l4.n;
         l21 = l2.p + (size_t)l9;
         l22 = (*(uint8_t *)l21);
-        l15 = uses__book__Book__use_at(l16, l18, l20, l9, l22, l6);
+        l15 = uses__book__Book__use_at(l1, l18, l20, l9, l22, l6);
         switch (l15.tag) {
             case UINT8_C(0): {
                 l23.f0 = l9;
                 l0.tag = UINT8_C(1);
-                l0.s1 = l23;
+                l0.s1.f0 = l23.f0;
                 return l0;
                 break;
             }
             case UINT8_C(1): default: {
                 switch (l15.s0.f1.tag) {
                     case UINT8_C(0): {
-                        l10.f0 = l15.s0.f0.f0;
-                        l10.f1 = l15.s0.f0.f1;
-                        l10.f2 = l15.s0.f0.f2;
-                        l10.f3 = l15.s0.f0.f3;
-                        l10.f4 = l15.s0.f0.f4;
-                        l10.f5 = l15.s0.f0.f5;
-                        l10.f6 = l15.s0.f0.f6;
-                        l6.f0 = l10.f0;
-                        l6.f1 = l10.f1;
-                        l6.f2 = l10.f2;
-                        l6.f3 = l10.f3;
-                        l6.f4 = l10.f4;
-                        l6.f5 = l10.f5;
-                        l6.f6 = l10.f6;
+                        l6.f0 = l15.s0.f0.f0;
+                        l6.f1 = l15.s0.f0.f1;
+                        l6.f2 = l15.s0.f0.f2;
+                        l6.f3 = l15.s0.f0.f3;
+                        l6.f4 = l15.s0.f0.f4;
+                        l6.f5 = l15.s0.f0.f5;
+                        l6.f6 = l15.s0.f0.f6;
                         break;
                     }
                     case UINT8_C(1): default: {
-                        l11.f0 = l15.s0.f0.f0;
-                        l11.f1 = l15.s0.f0.f1;
-                        l11.f2 = l15.s0.f0.f2;
-                        l11.f3 = l15.s0.f0.f3;
-                        l11.f4 = l15.s0.f0.f4;
-                        l11.f5 = l15.s0.f0.f5;
-                        l11.f6 = l15.s0.f0.f6;
-                        l12 = l15.s0.f1.s0;
                         l24 = l5.p + (size_t)l7;
-                        (*(uint8_t *)l24) = l12;
+                        (*(uint8_t *)l24) = l15.s0.f1.s0;
                         l7 = (uint64_t)((uint64_t)l7 + (uint64_t)UINT64_C(1));
-                        l6.f0 = l11.f0;
-                        l6.f1 = l11.f1;
-                        l6.f2 = l11.f2;
-                        l6.f3 = l11.f3;
-                        l6.f4 = l11.f4;
-                        l6.f5 = l11.f5;
-                        l6.f6 = l11.f6;
+                        l6.f0 = l15.s0.f0.f0;
+                        l6.f1 = l15.s0.f0.f1;
+                        l6.f2 = l15.s0.f0.f2;
+                        l6.f3 = l15.s0.f0.f3;
+                        l6.f4 = l15.s0.f0.f4;
+                        l6.f5 = l15.s0.f0.f5;
+                        l6.f6 = l15.s0.f0.f6;
                         break;
                     }
                 }
@@ -24205,20 +23135,16 @@ static inline uint8_t uses__declared__Declarations__few_steps(struct uses__decla
 {
     uint8_t l0;
     struct rt_array_uint64_17 l3;
-    struct uses__declared__Declarations l5;
     uint8_t *l6;
     rt_slice l7;
     uint64_t l8;
     uint8_t *l9;
     rt_slice l10;
     memset(&l3, 0, sizeof l3);
-    l5.f0 = l1.f0;
-    l5.f1 = l1.f1;
-    l5.f2 = l1.f2;
     l6 = (uint8_t *)&l3;
     l7.p = l6;
     l7.n = UINT64_C(17);
-    uses__declared__Declarations__rows(l5, UINT8_C(41), l7);
+    uses__declared__Declarations__rows(l1, UINT8_C(41), l7);
     l8 = (uint64_t)((uint64_t)l2 + (uint64_t)UINT64_C(1));
     l9 = (uint8_t *)&l3;
     l10.p = l9;
@@ -24230,47 +23156,35 @@ static inline uint8_t uses__declared__Declarations__few_steps(struct uses__decla
 static inline uint8_t uses__declared__Declarations__filled(struct uses__declared__Declarations l1, rt_slice l2)
 {
     uint8_t l0;
-    struct uses__declared__Declarations l4;
     uint8_t *l5;
     rt_slice l6;
     uint8_t l7;
-    struct uses__declared__Declarations l8;
     uint8_t *l9;
     rt_slice l10;
     uint8_t l11;
-    struct uses__declared__Declarations l12;
     uint8_t *l13;
     uint64_t l14;
     uint8_t *l15;
     rt_slice l16;
-    l4.f0 = l1.f0;
-    l4.f1 = l1.f1;
-    l4.f2 = l1.f2;
     l5 = (uint8_t *)&(*(uint64_t *)l2.p);
     l6.p = l5;
     l6.n = l2.n;
-    uses__declared__Declarations__lay(l4, l6);
-    l8.f0 = l1.f0;
-    l8.f1 = l1.f1;
-    l8.f2 = l1.f2;
+    uses__declared__Declarations__lay(l1, l6);
     l9 = (uint8_t *)&(*(uint64_t *)l2.p);
     l10.p = l9;
     l10.n = l2.n;
-    l7 = uses__declared__Declarations__well(l8, l10);
+    l7 = uses__declared__Declarations__well(l1, l10);
     l11 = (uint8_t)!l7;
     if (l11) {
         l0 = 0;
         return l0;
     }
-    l12.f0 = l1.f0;
-    l12.f1 = l1.f1;
-    l12.f2 = l1.f2;
     l13 = l2.p + (size_t)UINT64_C(1288);
     l14 = (uint64_t)((uint64_t)UINT64_C(289) - (uint64_t)UINT64_C(161));
     l15 = (uint8_t *)&(*(uint64_t *)l13);
     l16.p = l15;
     l16.n = l14;
-    l0 = uses__declared__Declarations__par_types(l12, l16);
+    l0 = uses__declared__Declarations__par_types(l1, l16);
     return l0;
 }
 
@@ -24278,35 +23192,29 @@ static inline uint64_t uses__declared__Declarations__gather(struct uses__declare
 {
     uint64_t l0;
     uint64_t l5;
-    rt_slice l6;
     uint64_t l7;
     uint8_t *l8;
     uint8_t l9;
-    uint64_t l10;
     uint8_t l11;
     uint64_t l12;
     uint8_t *l13;
     uint8_t l14;
-    rt_slice l15;
     uint64_t l16;
     uint8_t *l17;
     rt_slice l18;
     l5 = UINT64_C(0);
-    l6 = l1.f2;
     l7 = UINT64_C(0);
-    l10 = l6.n;
     for (;;) {
-        l11 = (uint8_t)(l7 < l10);
+        l11 = (uint8_t)(l7 < l1.f2.n);
         if (l11) {
         } else {
             goto end1;
         }
         l12 = (uint64_t)((uint64_t)l7 * (uint64_t)UINT64_C(8));
-        l13 = l6.p + (size_t)l12;
+        l13 = l1.f2.p + (size_t)l12;
         l8 = (uint8_t *)&(*(uint64_t *)l13);
-        l15 = l1.f1;
         l16 = (*(uint64_t *)l8);
-        l14 = lexer__bytes__byte(l15, l16);
+        l14 = lexer__bytes__byte(l1.f1, l16);
         l9 = lexer__bytes__between(l2, l3, l14);
         l17 = (uint8_t *)&(*(uint64_t *)l4.p);
         l18.p = l17;
@@ -24324,62 +23232,46 @@ static inline void uses__declared__Declarations__lay(struct uses__declared__Decl
 {
     uint64_t l3;
     uint64_t l4;
-    struct uses__declared__Declarations l5;
     uint8_t *l6;
     uint64_t l7;
     uint8_t *l8;
     rt_slice l9;
-    struct uses__declared__Declarations l11;
     uint8_t *l12;
     uint8_t *l13;
     rt_slice l14;
-    struct uses__declared__Declarations l15;
     uint8_t *l16;
     uint64_t l17;
     uint8_t *l18;
     rt_slice l19;
-    struct uses__declared__Declarations l20;
     uint8_t *l21;
     uint8_t *l22;
     rt_slice l23;
     uint8_t *l24;
     uint8_t *l25;
-    l5.f0 = l1.f0;
-    l5.f1 = l1.f1;
-    l5.f2 = l1.f2;
     l6 = l2.p + (size_t)UINT64_C(0);
     l7 = (uint64_t)((uint64_t)UINT64_C(16) - (uint64_t)UINT64_C(0));
     l8 = (uint8_t *)&(*(uint64_t *)l6);
     l9.p = l8;
     l9.n = l7;
-    l3 = uses__declared__Declarations__gather(l5, UINT8_C(39), UINT8_C(39), l9);
-    l11.f0 = l1.f0;
-    l11.f1 = l1.f1;
-    l11.f2 = l1.f2;
+    l3 = uses__declared__Declarations__gather(l1, UINT8_C(39), UINT8_C(39), l9);
     l12 = l2.p + (size_t)UINT64_C(128);
     l7 = (uint64_t)((uint64_t)UINT64_C(33) - (uint64_t)UINT64_C(16));
     l13 = (uint8_t *)&(*(uint64_t *)l12);
     l14.p = l13;
     l14.n = l7;
-    uses__declared__Declarations__rows(l11, UINT8_C(40), l14);
-    l15.f0 = l1.f0;
-    l15.f1 = l1.f1;
-    l15.f2 = l1.f2;
+    uses__declared__Declarations__rows(l1, UINT8_C(40), l14);
     l16 = l2.p + (size_t)UINT64_C(264);
     l17 = (uint64_t)((uint64_t)UINT64_C(161) - (uint64_t)UINT64_C(33));
     l18 = (uint8_t *)&(*(uint64_t *)l16);
     l19.p = l18;
     l19.n = l17;
-    l7 = uses__declared__Declarations__gather(l15, UINT8_C(40), UINT8_C(40), l19);
-    l20.f0 = l1.f0;
-    l20.f1 = l1.f1;
-    l20.f2 = l1.f2;
+    l7 = uses__declared__Declarations__gather(l1, UINT8_C(40), UINT8_C(40), l19);
     l21 = l2.p + (size_t)UINT64_C(2312);
     l7 = (uint64_t)((uint64_t)UINT64_C(321) - (uint64_t)UINT64_C(289));
     l22 = (uint8_t *)&(*(uint64_t *)l21);
     l23.p = l22;
     l23.n = l7;
-    l4 = uses__declared__Declarations__step_names(l20, l23);
+    l4 = uses__declared__Declarations__step_names(l1, l23);
     l24 = l2.p + (size_t)UINT64_C(2568);
     (*(uint64_t *)l24) = l3;
     l25 = l2.p + (size_t)UINT64_C(2576);
@@ -24394,14 +23286,10 @@ static inline uint8_t uses__declared__Declarations__par_types(struct uses__decla
     uint64_t l4;
     struct rt_array_uint64_128 l5;
     uint64_t l6;
-    struct uses__declared__Declarations l7;
     uint8_t *l8;
     rt_slice l9;
-    struct uses__declared__Declarations l10;
     uint8_t *l11;
     rt_slice l12;
-    rt_slice l13;
-    rt_slice l14;
     uint8_t *l15;
     rt_slice l16;
     uint8_t *l17;
@@ -24409,23 +23297,15 @@ static inline uint8_t uses__declared__Declarations__par_types(struct uses__decla
     uint8_t *l19;
     rt_slice l20;
     memset(&l3, 0, sizeof l3);
-    l7.f0 = l1.f0;
-    l7.f1 = l1.f1;
-    l7.f2 = l1.f2;
     l8 = (uint8_t *)&l3;
     l9.p = l8;
     l9.n = UINT64_C(16);
-    l4 = uses__declared__Declarations__gather(l7, UINT8_C(39), UINT8_C(39), l9);
+    l4 = uses__declared__Declarations__gather(l1, UINT8_C(39), UINT8_C(39), l9);
     memset(&l5, 0, sizeof l5);
-    l10.f0 = l1.f0;
-    l10.f1 = l1.f1;
-    l10.f2 = l1.f2;
     l11 = (uint8_t *)&l5;
     l12.p = l11;
     l12.n = UINT64_C(128);
-    l6 = uses__declared__Declarations__gather(l10, UINT8_C(51), UINT8_C(54), l12);
-    l13 = l1.f0;
-    l14 = l1.f1;
+    l6 = uses__declared__Declarations__gather(l1, UINT8_C(51), UINT8_C(54), l12);
     l15 = (uint8_t *)&l3;
     l16.p = l15;
     l16.n = l4;
@@ -24435,7 +23315,7 @@ static inline uint8_t uses__declared__Declarations__par_types(struct uses__decla
     l19 = (uint8_t *)&(*(uint64_t *)l2.p);
     l20.p = l19;
     l20.n = l2.n;
-    l0 = resolve__declarations__types(l13, l14, l16, l18, l20);
+    l0 = resolve__declarations__types(l1.f0, l1.f1, l16, l18, l20);
     return l0;
 }
 
@@ -24443,15 +23323,12 @@ static inline void uses__declared__Declarations__rows(struct uses__declared__Dec
 {
     uint64_t l4;
     uint64_t l5;
-    rt_slice l6;
     uint64_t l7;
     uint8_t *l8;
     uint8_t l9;
-    uint64_t l10;
     uint8_t l11;
     uint64_t l12;
     uint8_t *l13;
-    rt_slice l14;
     uint64_t l15;
     uint8_t *l16;
     rt_slice l17;
@@ -24460,21 +23337,18 @@ static inline void uses__declared__Declarations__rows(struct uses__declared__Dec
     rt_slice l21;
     l4 = UINT64_C(0);
     l5 = UINT64_C(0);
-    l6 = l1.f2;
     l7 = UINT64_C(0);
-    l10 = l6.n;
     for (;;) {
-        l11 = (uint8_t)(l7 < l10);
+        l11 = (uint8_t)(l7 < l1.f2.n);
         if (l11) {
         } else {
             goto end1;
         }
         l12 = (uint64_t)((uint64_t)l7 * (uint64_t)UINT64_C(8));
-        l13 = l6.p + (size_t)l12;
+        l13 = l1.f2.p + (size_t)l12;
         l8 = (uint8_t *)&(*(uint64_t *)l13);
-        l14 = l1.f1;
         l15 = (*(uint64_t *)l8);
-        l9 = lexer__bytes__byte(l14, l15);
+        l9 = lexer__bytes__byte(l1.f1, l15);
         l16 = (uint8_t *)&(*(uint64_t *)l3.p);
         l17.p = l16;
         l17.n = l3.n;
@@ -24497,36 +23371,30 @@ static inline uint64_t uses__declared__Declarations__step_names(struct uses__dec
     uint64_t l0;
     struct rt_array_uint64_128 l3;
     uint64_t l4;
-    struct uses__declared__Declarations l5;
     uint8_t *l6;
     rt_slice l7;
     uint8_t l8;
-    rt_slice l9;
     uint8_t *l10;
     rt_slice l11;
     uint8_t *l12;
     rt_slice l13;
     memset(&l3, 0, sizeof l3);
-    l5.f0 = l1.f0;
-    l5.f1 = l1.f1;
-    l5.f2 = l1.f2;
     l6 = (uint8_t *)&l3;
     l7.p = l6;
     l7.n = UINT64_C(128);
-    l4 = uses__declared__Declarations__gather(l5, UINT8_C(41), UINT8_C(41), l7);
+    l4 = uses__declared__Declarations__gather(l1, UINT8_C(41), UINT8_C(41), l7);
     l8 = (uint8_t)(UINT64_C(128) < l4);
     if (l8) {
         l0 = UINT64_C(0);
         return l0;
     }
-    l9 = l1.f0;
     l10 = (uint8_t *)&l3;
     l11.p = l10;
     l11.n = l4;
     l12 = (uint8_t *)&(*(uint64_t *)l2.p);
     l13.p = l12;
     l13.n = l2.n;
-    l0 = resolve__declarations__step_names(l9, l11, l13);
+    l0 = resolve__declarations__step_names(l1.f0, l11, l13);
     return l0;
 }
 
@@ -24538,14 +23406,12 @@ static inline uint8_t uses__declared__Declarations__well(struct uses__declared__
     uint8_t *l5;
     uint64_t l6;
     uint8_t l7;
-    rt_slice l8;
     uint8_t *l9;
     rt_slice l10;
     uint8_t l11;
     uint64_t l12;
     uint8_t *l13;
     uint64_t l14;
-    rt_slice l15;
     uint8_t *l16;
     uint8_t *l17;
     rt_slice l18;
@@ -24554,7 +23420,6 @@ static inline uint8_t uses__declared__Declarations__well(struct uses__declared__
     uint64_t l21;
     uint8_t *l22;
     rt_slice l23;
-    struct uses__declared__Declarations l24;
     uint8_t *l25;
     l5 = l2.p + (size_t)UINT64_C(2568);
     l6 = (*(uint64_t *)l5);
@@ -24564,11 +23429,10 @@ static inline uint8_t uses__declared__Declarations__well(struct uses__declared__
         l0 = 0;
         return l0;
     }
-    l8 = l1.f0;
     l9 = (uint8_t *)&(*(uint64_t *)l2.p);
     l10.p = l9;
     l10.n = l3;
-    l7 = resolve__tables__distinct(l8, l10);
+    l7 = resolve__tables__distinct(l1.f0, l10);
     l11 = (uint8_t)!l7;
     if (l11) {
         l0 = 0;
@@ -24584,7 +23448,6 @@ static inline uint8_t uses__declared__Declarations__well(struct uses__declared__
         l0 = 0;
         return l0;
     }
-    l15 = l1.f0;
     l14 = (uint64_t)((uint64_t)UINT64_C(33) + (uint64_t)l4);
     l16 = l2.p + (size_t)UINT64_C(264);
     l12 = (uint64_t)((uint64_t)l14 - (uint64_t)UINT64_C(33));
@@ -24598,16 +23461,13 @@ static inline uint8_t uses__declared__Declarations__well(struct uses__declared__
     l22 = (uint8_t *)&(*(uint64_t *)l20);
     l23.p = l22;
     l23.n = l21;
-    l7 = resolve__declarations__rows_ok(l15, l18, l23);
+    l7 = resolve__declarations__rows_ok(l1.f0, l18, l23);
     l11 = (uint8_t)!l7;
     if (l11) {
         l0 = 0;
         return l0;
     }
-    l24.f0 = l1.f0;
-    l24.f1 = l1.f1;
-    l24.f2 = l1.f2;
-    l7 = uses__declared__Declarations__few_steps(l24, l3);
+    l7 = uses__declared__Declarations__few_steps(l1, l3);
     l11 = (uint8_t)!l7;
     if (l11) {
         l0 = 0;
@@ -24625,7 +23485,6 @@ static inline uint64_t uses__declared__all(rt_slice l1, rt_slice l2)
     uint64_t l3;
     uint64_t l4;
     uint8_t *l5;
-    uint64_t l6;
     uint8_t l7;
     uint8_t *l8;
     uint8_t *l9;
@@ -24634,9 +23493,8 @@ static inline uint64_t uses__declared__all(rt_slice l1, rt_slice l2)
     uint8_t l12;
     l3 = UINT64_C(0);
     l4 = UINT64_C(0);
-    l6 = l1.n;
     for (;;) {
-        l7 = (uint8_t)(l4 < l6);
+        l7 = (uint8_t)(l4 < l1.n);
         if (l7) {
         } else {
             goto end2;
@@ -24673,9 +23531,6 @@ static RT_HERE struct core__option__Option__rt_tuple2_u8_u64 uses__looked__local
 {
     struct core__option__Option__rt_tuple2_u8_u64 l0;
     uint64_t l5;
-    uint64_t l6;
-    uint64_t l7;
-    struct core__option__NoValue l8;
     struct core__ops__ControlFlow__NoValue_u64 l9;
     struct core__option__Option__u64 l10;
     uint64_t l11;
@@ -24683,7 +23538,6 @@ static RT_HERE struct core__option__Option__rt_tuple2_u8_u64 uses__looked__local
     uint64_t l13;
     uint8_t *l14;
     rt_slice l15;
-    uint64_t l16;
     uint64_t l17;
     uint8_t *l18;
     uint64_t l19;
@@ -24706,26 +23560,27 @@ static RT_HERE struct core__option__Option__rt_tuple2_u8_u64 uses__looked__local
     l9 = core__option__OptionTry__branch__u64(l10);
     switch (l9.tag) {
         case UINT8_C(0): {
-            l7 = l9.s0;
-            l16 = l7;
             break;
         }
         case UINT8_C(1): default: {
-            l8 = l9.s1;
-            l0 = core__option__OptionFromResidualNoValue__from_residual_e4dc67fa(l8);
+            {
+                struct core__option__Option__rt_tuple2_u8_u64 r = core__option__OptionFromResidualNoValue__from_residual_e4dc67fa(l9.s1);
+                l0.tag = r.tag;
+                l0.s0.f0 = r.s0.f0;
+                l0.s0.f1 = r.s0.f1;
+            }
             return l0;
             break;
         }
     }
-    l6 = l16;
-    l11 = (uint64_t)((uint64_t)l5 + (uint64_t)l6);
+    l11 = (uint64_t)((uint64_t)l5 + (uint64_t)l9.s0);
     l13 = (uint64_t)((uint64_t)l11 + (uint64_t)UINT64_C(8));
     l17 = (uint64_t)((uint64_t)l13 * (uint64_t)UINT64_C(8));
     l18 = l2.p + (size_t)l17;
     l19 = (*(uint64_t *)l18);
     l20 = (uint64_t)((uint64_t)UINT64_C(8) + (uint64_t)l19);
     l21 = (uint8_t)l20;
-    l22 = (uint64_t)((uint64_t)l5 + (uint64_t)l6);
+    l22 = (uint64_t)((uint64_t)l5 + (uint64_t)l9.s0);
     l23 = (uint64_t)((uint64_t)l22 + (uint64_t)UINT64_C(16));
     l24 = (uint64_t)((uint64_t)l23 * (uint64_t)UINT64_C(8));
     l25 = l2.p + (size_t)l24;
@@ -24733,7 +23588,8 @@ static RT_HERE struct core__option__Option__rt_tuple2_u8_u64 uses__looked__local
     l27.f0 = l21;
     l27.f1 = l26;
     l0.tag = UINT8_C(1);
-    l0.s0 = l27;
+    l0.s0.f0 = l27.f0;
+    l0.s0.f1 = l27.f1;
     return l0;
 }
 
@@ -24763,7 +23619,7 @@ static RT_HERE struct core__result__Result__u64_NoProgram uses__numbers(rt_slice
     if (l10) {
         l11.f0 = UINT64_C(0);
         l0.tag = UINT8_C(1);
-        l0.s1 = l11;
+        l0.s1.f0 = l11.f0;
         return l0;
     }
     memset(&l6, 0, sizeof l6);
@@ -24788,12 +23644,8 @@ static RT_HERE struct core__result__Result__u64_NoProgram uses__numbers(rt_slice
 static RT_HERE struct core__option__Option__rt_tuple2_uses_Scope_Option_u8 uses__parts__close(rt_slice l1, uint8_t l2, struct uses__Scope l3)
 {
     struct core__option__Option__rt_tuple2_uses_Scope_Option_u8 l0;
-    uint64_t l4;
-    uint64_t l5;
-    struct core__option__NoValue l6;
     struct core__ops__ControlFlow__NoValue_u64 l7;
     struct core__option__Option__u64 l8;
-    uint64_t l9;
     uint8_t *l10;
     uint8_t l11;
     uint8_t l12;
@@ -24804,44 +23656,61 @@ static RT_HERE struct core__option__Option__rt_tuple2_uses_Scope_Option_u8 uses_
     l7 = core__option__OptionTry__branch__u64(l8);
     switch (l7.tag) {
         case UINT8_C(0): {
-            l5 = l7.s0;
-            l9 = l5;
             break;
         }
         case UINT8_C(1): default: {
-            l6 = l7.s1;
-            l0 = core__option__OptionFromResidualNoValue__from_residual_e7cc27ad(l6);
+            {
+                struct core__option__Option__rt_tuple2_uses_Scope_Option_u8 r = core__option__OptionFromResidualNoValue__from_residual_e7cc27ad(l7.s1);
+                l0.tag = r.tag;
+                l0.s0.f0.f0 = r.s0.f0.f0;
+                l0.s0.f0.f1 = r.s0.f0.f1;
+                l0.s0.f0.f2 = r.s0.f0.f2;
+                l0.s0.f0.f3 = r.s0.f0.f3;
+                l0.s0.f0.f4 = r.s0.f0.f4;
+                l0.s0.f0.f5 = r.s0.f0.f5;
+                l0.s0.f0.f6 = r.s0.f0.f6;
+                l0.s0.f1.tag = r.s0.f1.tag;
+                l0.s0.f1.s0 = r.s0.f1.s0;
+            }
             return l0;
             break;
         }
     }
-    l4 = l9;
-    l10 = l1.p + (size_t)l4;
+    l10 = l1.p + (size_t)l7.s0;
     l11 = (*(uint8_t *)l10);
     l12 = (uint8_t)(l11 != l2);
     if (l12) {
         l0.tag = UINT8_C(0);
         return l0;
     }
-    l13 = uses__parts__dued(l3, l4);
+    l13 = uses__parts__dued(l3, l7.s0);
     l14.tag = UINT8_C(0);
-    l15.f0 = l13;
+    l15.f0.f0 = l13.f0;
+    l15.f0.f1 = l13.f1;
+    l15.f0.f2 = l13.f2;
+    l15.f0.f3 = l13.f3;
+    l15.f0.f4 = l13.f4;
+    l15.f0.f5 = l13.f5;
+    l15.f0.f6 = l13.f6;
     l15.f1 = l14;
     l0.tag = UINT8_C(1);
-    l0.s0 = l15;
+    l0.s0.f0.f0 = l15.f0.f0;
+    l0.s0.f0.f1 = l15.f0.f1;
+    l0.s0.f0.f2 = l15.f0.f2;
+    l0.s0.f0.f3 = l15.f0.f3;
+    l0.s0.f0.f4 = l15.f0.f4;
+    l0.s0.f0.f5 = l15.f0.f5;
+    l0.s0.f0.f6 = l15.f0.f6;
+    l0.s0.f1 = l15.f1;
     return l0;
 }
 
 static RT_HERE struct core__option__Option__rt_tuple2_uses_Scope_Option_u8 uses__parts__close_if(rt_slice l1, struct uses__Scope l2)
 {
     struct core__option__Option__rt_tuple2_uses_Scope_Option_u8 l0;
-    uint64_t l3;
-    uint64_t l4;
-    struct core__option__NoValue l5;
     uint64_t l6;
     struct core__ops__ControlFlow__NoValue_u64 l7;
     struct core__option__Option__u64 l8;
-    uint64_t l9;
     uint64_t l10;
     uint64_t l11;
     uint8_t *l12;
@@ -24853,118 +23722,148 @@ static RT_HERE struct core__option__Option__rt_tuple2_uses_Scope_Option_u8 uses_
     l7 = core__option__OptionTry__branch__u64(l8);
     switch (l7.tag) {
         case UINT8_C(0): {
-            l4 = l7.s0;
-            l9 = l4;
             break;
         }
         case UINT8_C(1): default: {
-            l5 = l7.s1;
-            l0 = core__option__OptionFromResidualNoValue__from_residual_e7cc27ad(l5);
+            {
+                struct core__option__Option__rt_tuple2_uses_Scope_Option_u8 r = core__option__OptionFromResidualNoValue__from_residual_e7cc27ad(l7.s1);
+                l0.tag = r.tag;
+                l0.s0.f0.f0 = r.s0.f0.f0;
+                l0.s0.f0.f1 = r.s0.f0.f1;
+                l0.s0.f0.f2 = r.s0.f0.f2;
+                l0.s0.f0.f3 = r.s0.f0.f3;
+                l0.s0.f0.f4 = r.s0.f0.f4;
+                l0.s0.f0.f5 = r.s0.f0.f5;
+                l0.s0.f0.f6 = r.s0.f0.f6;
+                l0.s0.f1.tag = r.s0.f1.tag;
+                l0.s0.f1.s0 = r.s0.f1.s0;
+            }
             return l0;
             break;
         }
     }
-    l3 = l9;
     l10 = l1.n;
     l11 = (uint64_t)((uint64_t)l10 - (uint64_t)l2.f6);
     l12 = l1.p + (size_t)l11;
     l13 = (*(uint8_t *)l12);
     l6 = core__convert__UsizeFromU8__from(l13);
     l10 = core__int__usize__min(l2.f2, l6);
-    l14 = uses__parts__lived(l2, l2.f1, l10, l3);
+    l14 = uses__parts__lived(l2, l2.f1, l10, l7.s0);
     l15.tag = UINT8_C(0);
-    l16.f0 = l14;
+    l16.f0.f0 = l14.f0;
+    l16.f0.f1 = l14.f1;
+    l16.f0.f2 = l14.f2;
+    l16.f0.f3 = l14.f3;
+    l16.f0.f4 = l14.f4;
+    l16.f0.f5 = l14.f5;
+    l16.f0.f6 = l14.f6;
     l16.f1 = l15;
     l0.tag = UINT8_C(1);
-    l0.s0 = l16;
+    l0.s0.f0.f0 = l16.f0.f0;
+    l0.s0.f0.f1 = l16.f0.f1;
+    l0.s0.f0.f2 = l16.f0.f2;
+    l0.s0.f0.f3 = l16.f0.f3;
+    l0.s0.f0.f4 = l16.f0.f4;
+    l0.s0.f0.f5 = l16.f0.f5;
+    l0.s0.f0.f6 = l16.f0.f6;
+    l0.s0.f1 = l16.f1;
     return l0;
 }
 
 static RT_HERE struct uses__Scope uses__parts__dued(struct uses__Scope l1, uint64_t l2)
 {
     struct uses__Scope l0;
-    uint64_t l3;
-    uint64_t l4;
-    uint64_t l5;
-    uint64_t l6;
-    uint64_t l7;
-    uint64_t l8;
-    l3 = l1.f0;
-    l4 = l1.f1;
-    l5 = l1.f2;
-    l6 = l1.f3;
-    l7 = l1.f4;
-    l8 = l1.f6;
-    l0.f0 = l3;
-    l0.f1 = l4;
-    l0.f2 = l5;
-    l0.f3 = l6;
-    l0.f4 = l7;
+    l0.f0 = l1.f0;
+    l0.f1 = l1.f1;
+    l0.f2 = l1.f2;
+    l0.f3 = l1.f3;
+    l0.f4 = l1.f4;
     l0.f5 = l2;
-    l0.f6 = l8;
+    l0.f6 = l1.f6;
     return l0;
 }
 
 static RT_HERE struct core__option__Option__rt_tuple2_uses_Scope_Option_u8 uses__parts__go_on(rt_slice l1, struct uses__Scope l2)
 {
     struct core__option__Option__rt_tuple2_uses_Scope_Option_u8 l0;
-    uint64_t l3;
-    uint64_t l4;
-    struct core__option__NoValue l5;
-    uint8_t l6;
-    uint8_t l7;
-    struct core__option__NoValue l8;
     struct core__ops__ControlFlow__NoValue_u64 l9;
     struct core__option__Option__u64 l10;
-    uint64_t l11;
     struct core__ops__ControlFlow__NoValue_u8 l12;
     struct core__option__Option__u8 l13;
     uint8_t *l14;
     uint8_t l15;
-    uint8_t l16;
     uint8_t *l17;
     struct rt_tuple2__uses_Scope_Option_u8 l18;
     l10 = core__int__checked__usize__checked_sub(l2.f5, UINT64_C(1));
     l9 = core__option__OptionTry__branch__u64(l10);
     switch (l9.tag) {
         case UINT8_C(0): {
-            l4 = l9.s0;
-            l11 = l4;
             break;
         }
         case UINT8_C(1): default: {
-            l5 = l9.s1;
-            l0 = core__option__OptionFromResidualNoValue__from_residual_e7cc27ad(l5);
+            {
+                struct core__option__Option__rt_tuple2_uses_Scope_Option_u8 r = core__option__OptionFromResidualNoValue__from_residual_e7cc27ad(l9.s1);
+                l0.tag = r.tag;
+                l0.s0.f0.f0 = r.s0.f0.f0;
+                l0.s0.f0.f1 = r.s0.f0.f1;
+                l0.s0.f0.f2 = r.s0.f0.f2;
+                l0.s0.f0.f3 = r.s0.f0.f3;
+                l0.s0.f0.f4 = r.s0.f0.f4;
+                l0.s0.f0.f5 = r.s0.f0.f5;
+                l0.s0.f0.f6 = r.s0.f0.f6;
+                l0.s0.f1.tag = r.s0.f1.tag;
+                l0.s0.f1.s0 = r.s0.f1.s0;
+            }
             return l0;
             break;
         }
     }
-    l3 = l11;
-    l14 = l1.p + (size_t)l3;
+    l14 = l1.p + (size_t)l9.s0;
     l15 = (*(uint8_t *)l14);
     l13 = core__int__checked__u8__checked_sub(l15, UINT8_C(1));
     l12 = core__option__OptionTry__branch__u8(l13);
     switch (l12.tag) {
         case UINT8_C(0): {
-            l7 = l12.s0;
-            l16 = l7;
             break;
         }
         case UINT8_C(1): default: {
-            l8 = l12.s1;
-            l0 = core__option__OptionFromResidualNoValue__from_residual_e7cc27ad(l8);
+            {
+                struct core__option__Option__rt_tuple2_uses_Scope_Option_u8 r = core__option__OptionFromResidualNoValue__from_residual_e7cc27ad(l12.s1);
+                l0.tag = r.tag;
+                l0.s0.f0.f0 = r.s0.f0.f0;
+                l0.s0.f0.f1 = r.s0.f0.f1;
+                l0.s0.f0.f2 = r.s0.f0.f2;
+                l0.s0.f0.f3 = r.s0.f0.f3;
+                l0.s0.f0.f4 = r.s0.f0.f4;
+                l0.s0.f0.f5 = r.s0.f0.f5;
+                l0.s0.f0.f6 = r.s0.f0.f6;
+                l0.s0.f1.tag = r.s0.f1.tag;
+                l0.s0.f1.s0 = r.s0.f1.s0;
+            }
             return l0;
             break;
         }
     }
-    l6 = l16;
-    l17 = l1.p + (size_t)l3;
-    (*(uint8_t *)l17) = l6;
+    l17 = l1.p + (size_t)l9.s0;
+    (*(uint8_t *)l17) = l12.s0;
     l13.tag = UINT8_C(0);
-    l18.f0 = l2;
+    l18.f0.f0 = l2.f0;
+    l18.f0.f1 = l2.f1;
+    l18.f0.f2 = l2.f2;
+    l18.f0.f3 = l2.f3;
+    l18.f0.f4 = l2.f4;
+    l18.f0.f5 = l2.f5;
+    l18.f0.f6 = l2.f6;
     l18.f1 = l13;
     l0.tag = UINT8_C(1);
-    l0.s0 = l18;
+    l0.s0.f0.f0 = l18.f0.f0;
+    l0.s0.f0.f1 = l18.f0.f1;
+    l0.s0.f0.f2 = l18.f0.f2;
+    l0.s0.f0.f3 = l18.f0.f3;
+    l0.s0.f0.f4 = l18.f0.f4;
+    l0.s0.f0.f5 = l18.f0.f5;
+    l0.s0.f0.f6 = l18.f0.f6;
+    l0.s0.f1 = l18.f1;
     return l0;
 }
 
@@ -24983,10 +23882,23 @@ static RT_HERE struct core__option__Option__rt_tuple2_uses_Scope_Option_u8 uses_
         case UINT8_C(19): {
             l6 = uses__parts__lived(l4, l4.f1, l4.f2, l4.f6);
             l7.tag = UINT8_C(0);
-            l8.f0 = l6;
+            l8.f0.f0 = l6.f0;
+            l8.f0.f1 = l6.f1;
+            l8.f0.f2 = l6.f2;
+            l8.f0.f3 = l6.f3;
+            l8.f0.f4 = l6.f4;
+            l8.f0.f5 = l6.f5;
+            l8.f0.f6 = l6.f6;
             l8.f1 = l7;
             l5.tag = UINT8_C(1);
-            l5.s0 = l8;
+            l5.s0.f0.f0 = l8.f0.f0;
+            l5.s0.f0.f1 = l8.f0.f1;
+            l5.s0.f0.f2 = l8.f0.f2;
+            l5.s0.f0.f3 = l8.f0.f3;
+            l5.s0.f0.f4 = l8.f0.f4;
+            l5.s0.f0.f5 = l8.f0.f5;
+            l5.s0.f0.f6 = l8.f0.f6;
+            l5.s0.f1 = l8.f1;
             break;
         }
         case UINT8_C(37): {
@@ -25001,10 +23913,23 @@ static RT_HERE struct core__option__Option__rt_tuple2_uses_Scope_Option_u8 uses_
         }
         default: {
             l11.tag = UINT8_C(0);
-            l12.f0 = l4;
+            l12.f0.f0 = l4.f0;
+            l12.f0.f1 = l4.f1;
+            l12.f0.f2 = l4.f2;
+            l12.f0.f3 = l4.f3;
+            l12.f0.f4 = l4.f4;
+            l12.f0.f5 = l4.f5;
+            l12.f0.f6 = l4.f6;
             l12.f1 = l11;
             l5.tag = UINT8_C(1);
-            l5.s0 = l12;
+            l5.s0.f0.f0 = l12.f0.f0;
+            l5.s0.f0.f1 = l12.f0.f1;
+            l5.s0.f0.f2 = l12.f0.f2;
+            l5.s0.f0.f3 = l12.f0.f3;
+            l5.s0.f0.f4 = l12.f0.f4;
+            l5.s0.f0.f5 = l12.f0.f5;
+            l5.s0.f0.f6 = l12.f0.f6;
+            l5.s0.f1 = l12.f1;
             break;
         }
     }
@@ -25015,18 +23940,12 @@ static RT_HERE struct core__option__Option__rt_tuple2_uses_Scope_Option_u8 uses_
 static RT_HERE struct uses__Scope uses__parts__lived(struct uses__Scope l1, uint64_t l2, uint64_t l3, uint64_t l4)
 {
     struct uses__Scope l0;
-    uint64_t l5;
-    uint64_t l6;
-    uint64_t l7;
-    l5 = l1.f0;
-    l6 = l1.f4;
-    l7 = l1.f5;
-    l0.f0 = l5;
+    l0.f0 = l1.f0;
     l0.f1 = l2;
     l0.f2 = l3;
     l0.f3 = UINT64_C(0);
-    l0.f4 = l6;
-    l0.f5 = l7;
+    l0.f4 = l1.f4;
+    l0.f5 = l1.f5;
     l0.f6 = l4;
     return l0;
 }
@@ -25034,7 +23953,6 @@ static RT_HERE struct uses__Scope uses__parts__lived(struct uses__Scope l1, uint
 static RT_HERE struct core__option__Option__rt_tuple2_uses_Scope_Option_u8 uses__parts__of_type(struct core__option__Option__u32 l1, struct uses__Scope l2)
 {
     struct core__option__Option__rt_tuple2_uses_Scope_Option_u8 l0;
-    struct core__option__NoValue l4;
     struct core__ops__ControlFlow__NoValue_u32 l5;
     struct core__option__Option__u8 l7;
     struct rt_tuple2__uses_Scope_Option_u8 l8;
@@ -25044,17 +23962,41 @@ static RT_HERE struct core__option__Option__rt_tuple2_uses_Scope_Option_u8 uses_
             break;
         }
         case UINT8_C(1): default: {
-            l4 = l5.s1;
-            l0 = core__option__OptionFromResidualNoValue__from_residual_e7cc27ad(l4);
+            {
+                struct core__option__Option__rt_tuple2_uses_Scope_Option_u8 r = core__option__OptionFromResidualNoValue__from_residual_e7cc27ad(l5.s1);
+                l0.tag = r.tag;
+                l0.s0.f0.f0 = r.s0.f0.f0;
+                l0.s0.f0.f1 = r.s0.f0.f1;
+                l0.s0.f0.f2 = r.s0.f0.f2;
+                l0.s0.f0.f3 = r.s0.f0.f3;
+                l0.s0.f0.f4 = r.s0.f0.f4;
+                l0.s0.f0.f5 = r.s0.f0.f5;
+                l0.s0.f0.f6 = r.s0.f0.f6;
+                l0.s0.f1.tag = r.s0.f1.tag;
+                l0.s0.f1.s0 = r.s0.f1.s0;
+            }
             return l0;
             break;
         }
     }
     l7.tag = UINT8_C(0);
-    l8.f0 = l2;
+    l8.f0.f0 = l2.f0;
+    l8.f0.f1 = l2.f1;
+    l8.f0.f2 = l2.f2;
+    l8.f0.f3 = l2.f3;
+    l8.f0.f4 = l2.f4;
+    l8.f0.f5 = l2.f5;
+    l8.f0.f6 = l2.f6;
     l8.f1 = l7;
     l0.tag = UINT8_C(1);
-    l0.s0 = l8;
+    l0.s0.f0.f0 = l8.f0.f0;
+    l0.s0.f0.f1 = l8.f0.f1;
+    l0.s0.f0.f2 = l8.f0.f2;
+    l0.s0.f0.f3 = l8.f0.f3;
+    l0.s0.f0.f4 = l8.f0.f4;
+    l0.s0.f0.f5 = l8.f0.f5;
+    l0.s0.f0.f6 = l8.f0.f6;
+    l0.s0.f1 = l8.f1;
     return l0;
 }
 
@@ -25062,7 +24004,6 @@ static RT_HERE struct core__option__Option__rt_tuple2_uses_Scope_Option_u8 uses_
 {
     struct core__option__Option__rt_tuple2_uses_Scope_Option_u8 l0;
     uint64_t l3;
-    uint64_t l4;
     uint64_t l5;
     uint64_t l6;
     uint64_t l7;
@@ -25072,20 +24013,32 @@ static RT_HERE struct core__option__Option__rt_tuple2_uses_Scope_Option_u8 uses_
     struct core__option__Option__u8 l11;
     struct rt_tuple2__uses_Scope_Option_u8 l12;
     l3 = (uint64_t)((uint64_t)l2.f2 - (uint64_t)l2.f3);
-    l4 = l2.f6;
     l6 = l1.n;
-    l7 = (uint64_t)((uint64_t)l4 + (uint64_t)UINT64_C(1));
+    l7 = (uint64_t)((uint64_t)l2.f6 + (uint64_t)UINT64_C(1));
     l5 = (uint64_t)((uint64_t)l6 - (uint64_t)l7);
     l8 = (uint8_t)l3;
     l9 = l1.p + (size_t)l5;
     (*(uint8_t *)l9) = l8;
-    l6 = (uint64_t)((uint64_t)l4 + (uint64_t)UINT64_C(1));
+    l6 = (uint64_t)((uint64_t)l2.f6 + (uint64_t)UINT64_C(1));
     l10 = uses__parts__lived(l2, l2.f1, l3, l6);
     l11.tag = UINT8_C(0);
-    l12.f0 = l10;
+    l12.f0.f0 = l10.f0;
+    l12.f0.f1 = l10.f1;
+    l12.f0.f2 = l10.f2;
+    l12.f0.f3 = l10.f3;
+    l12.f0.f4 = l10.f4;
+    l12.f0.f5 = l10.f5;
+    l12.f0.f6 = l10.f6;
     l12.f1 = l11;
     l0.tag = UINT8_C(1);
-    l0.s0 = l12;
+    l0.s0.f0.f0 = l12.f0.f0;
+    l0.s0.f0.f1 = l12.f0.f1;
+    l0.s0.f0.f2 = l12.f0.f2;
+    l0.s0.f0.f3 = l12.f0.f3;
+    l0.s0.f0.f4 = l12.f0.f4;
+    l0.s0.f0.f5 = l12.f0.f5;
+    l0.s0.f0.f6 = l12.f0.f6;
+    l0.s0.f1 = l12.f1;
     return l0;
 }
 
@@ -25126,10 +24079,23 @@ static RT_HERE struct core__option__Option__rt_tuple2_uses_Scope_Option_u8 uses_
         case UINT8_C(75): {
             l9 = uses__parts__lived(l3, UINT64_C(0), UINT64_C(0), UINT64_C(0));
             l10.tag = UINT8_C(0);
-            l11.f0 = l9;
+            l11.f0.f0 = l9.f0;
+            l11.f0.f1 = l9.f1;
+            l11.f0.f2 = l9.f2;
+            l11.f0.f3 = l9.f3;
+            l11.f0.f4 = l9.f4;
+            l11.f0.f5 = l9.f5;
+            l11.f0.f6 = l9.f6;
             l11.f1 = l10;
             l4.tag = UINT8_C(1);
-            l4.s0 = l11;
+            l4.s0.f0.f0 = l11.f0.f0;
+            l4.s0.f0.f1 = l11.f0.f1;
+            l4.s0.f0.f2 = l11.f0.f2;
+            l4.s0.f0.f3 = l11.f0.f3;
+            l4.s0.f0.f4 = l11.f0.f4;
+            l4.s0.f0.f5 = l11.f0.f5;
+            l4.s0.f0.f6 = l11.f0.f6;
+            l4.s0.f1 = l11.f1;
             break;
         }
         case UINT8_C(76): {
@@ -25155,10 +24121,23 @@ static RT_HERE struct core__option__Option__rt_tuple2_uses_Scope_Option_u8 uses_
         }
         default: {
             l18.tag = UINT8_C(0);
-            l19.f0 = l3;
+            l19.f0.f0 = l3.f0;
+            l19.f0.f1 = l3.f1;
+            l19.f0.f2 = l3.f2;
+            l19.f0.f3 = l3.f3;
+            l19.f0.f4 = l3.f4;
+            l19.f0.f5 = l3.f5;
+            l19.f0.f6 = l3.f6;
             l19.f1 = l18;
             l4.tag = UINT8_C(1);
-            l4.s0 = l19;
+            l4.s0.f0.f0 = l19.f0.f0;
+            l4.s0.f0.f1 = l19.f0.f1;
+            l4.s0.f0.f2 = l19.f0.f2;
+            l4.s0.f0.f3 = l19.f0.f3;
+            l4.s0.f0.f4 = l19.f0.f4;
+            l4.s0.f0.f5 = l19.f0.f5;
+            l4.s0.f0.f6 = l19.f0.f6;
+            l4.s0.f1 = l19.f1;
             break;
         }
     }
@@ -25210,61 +24189,59 @@ static inline uint8_t uses__pass__quiet(uint8_t l1)
 static RT_HERE struct core__option__Option__rt_tuple2_uses_Scope_Option_u8 uses__passing__left(struct uses__Scope l1, struct core__option__Option__rt_tuple2_u8_u64 l2)
 {
     struct core__option__Option__rt_tuple2_uses_Scope_Option_u8 l0;
-    uint8_t l3;
-    uint64_t l4;
-    struct rt_tuple2__u8_u64 l5;
-    struct core__option__NoValue l6;
-    struct rt_tuple2__u8_u64 l7;
     struct core__ops__ControlFlow__NoValue_rt_tuple2_u8_u64 l8;
-    struct rt_tuple2__u8_u64 l9;
-    uint64_t l10;
-    uint64_t l11;
-    uint64_t l12;
-    uint64_t l13;
-    uint64_t l14;
-    uint64_t l15;
     struct uses__Scope l16;
     struct core__option__Option__u8 l17;
     struct rt_tuple2__uses_Scope_Option_u8 l18;
     l8 = core__option__OptionTry__branch__rt_tuple2_u8_u64(l2);
     switch (l8.tag) {
         case UINT8_C(0): {
-            l5.f0 = l8.s0.f0;
-            l5.f1 = l8.s0.f1;
-            l9.f0 = l5.f0;
-            l9.f1 = l5.f1;
             break;
         }
         case UINT8_C(1): default: {
-            l6 = l8.s1;
-            l0 = core__option__OptionFromResidualNoValue__from_residual_e7cc27ad(l6);
+            {
+                struct core__option__Option__rt_tuple2_uses_Scope_Option_u8 r = core__option__OptionFromResidualNoValue__from_residual_e7cc27ad(l8.s1);
+                l0.tag = r.tag;
+                l0.s0.f0.f0 = r.s0.f0.f0;
+                l0.s0.f0.f1 = r.s0.f0.f1;
+                l0.s0.f0.f2 = r.s0.f0.f2;
+                l0.s0.f0.f3 = r.s0.f0.f3;
+                l0.s0.f0.f4 = r.s0.f0.f4;
+                l0.s0.f0.f5 = r.s0.f0.f5;
+                l0.s0.f0.f6 = r.s0.f0.f6;
+                l0.s0.f1.tag = r.s0.f1.tag;
+                l0.s0.f1.s0 = r.s0.f1.s0;
+            }
             return l0;
             break;
         }
     }
-    l7.f0 = l9.f0;
-    l7.f1 = l9.f1;
-    l3 = l7.f0;
-    l4 = l7.f1;
-    l10 = l1.f0;
-    l11 = l1.f1;
-    l12 = l1.f2;
-    l13 = l1.f3;
-    l14 = l1.f5;
-    l15 = l1.f6;
-    l16.f0 = l10;
-    l16.f1 = l11;
-    l16.f2 = l12;
-    l16.f3 = l13;
-    l16.f4 = l4;
-    l16.f5 = l14;
-    l16.f6 = l15;
+    l16.f0 = l1.f0;
+    l16.f1 = l1.f1;
+    l16.f2 = l1.f2;
+    l16.f3 = l1.f3;
+    l16.f4 = l8.s0.f1;
+    l16.f5 = l1.f5;
+    l16.f6 = l1.f6;
     l17.tag = UINT8_C(1);
-    l17.s0 = l3;
-    l18.f0 = l16;
+    l17.s0 = l8.s0.f0;
+    l18.f0.f0 = l16.f0;
+    l18.f0.f1 = l16.f1;
+    l18.f0.f2 = l16.f2;
+    l18.f0.f3 = l16.f3;
+    l18.f0.f4 = l16.f4;
+    l18.f0.f5 = l16.f5;
+    l18.f0.f6 = l16.f6;
     l18.f1 = l17;
     l0.tag = UINT8_C(1);
-    l0.s0 = l18;
+    l0.s0.f0.f0 = l18.f0.f0;
+    l0.s0.f0.f1 = l18.f0.f1;
+    l0.s0.f0.f2 = l18.f0.f2;
+    l0.s0.f0.f3 = l18.f0.f3;
+    l0.s0.f0.f4 = l18.f0.f4;
+    l0.s0.f0.f5 = l18.f0.f5;
+    l0.s0.f0.f6 = l18.f0.f6;
+    l0.s0.f1 = l18.f1;
     return l0;
 }
 
@@ -25324,7 +24301,6 @@ static inline uint8_t uses__tabling__fill(rt_slice l1, rt_slice l2, rt_slice l3)
     uint8_t l9;
     uint8_t *l10;
     rt_slice l11;
-    struct uses__declared__Declarations l12;
     uint8_t *l13;
     rt_slice l14;
     memset(&l4, 0, sizeof l4);
@@ -25343,13 +24319,10 @@ static inline uint8_t uses__tabling__fill(rt_slice l1, rt_slice l2, rt_slice l3)
     l6.f0 = l1;
     l6.f1 = l2;
     l6.f2 = l11;
-    l12.f0 = l6.f0;
-    l12.f1 = l6.f1;
-    l12.f2 = l6.f2;
     l13 = (uint8_t *)&(*(uint64_t *)l3.p);
     l14.p = l13;
     l14.n = l3.n;
-    l0 = uses__declared__Declarations__filled(l12, l14);
+    l0 = uses__declared__Declarations__filled(l6, l14);
     return l0;
 }
 

@@ -14,8 +14,10 @@ failed=0
 # What catches the translator in $work/mir2c, if anything does.
 verdict() {
     local by=""
-    python3 "$work/mir2c/test.py" >"$work/said" 2>&1 || by="its tests"
-    if ! python3 "$work/mir2c" "$version" include/audala.h audala crates/*/out/rlib "$kit/rlibs/core.rlib" >"$work/audala.c" 2>"$work/said"; then
+    for tests in test test_copies; do
+        python3 "$work/mir2c/$tests.py" >"$work/said" 2>&1 || by="its tests"
+    done
+    if ! python3 "$work/mir2c" "$version" include/audala.h audala crates/*/out/rlib "$kit"/rlibs/{core,std,std_alloc}.rlib >"$work/audala.c" 2>"$work/said"; then
         by="$by${by:+, }the translator"
     elif ! gcc -std=c99 -Wall -Wextra -Werror -Wno-maybe-uninitialized -pedantic -O1 -fsanitize=address,undefined -fno-sanitize-recover=all -Iinclude tools/cases.c "$work/audala.c" \
         -o "$work/cases" 2>"$work/said"; then
@@ -67,6 +69,10 @@ fault "an array lent to be written taken for a constant" constants.py 'and not s
 fault "a struct copied without its last field" body.py 'for part in (self.parts(t) if word == "Opd" else [""])' 'for part in (self.parts(t)[:-1] or [""] if word == "Opd" else [""])'
 fault "fields exchanged where a struct is copied" body.py '= {text}{part};" for part in' '= {text}{self.parts(t)[~self.parts(t).index(part)] if word == "Opd" else part};" for part in'
 fault "a slot shared by two fields of a variant" shapes.py 'if slot == c and j not in taken]' 'if slot == c]'
+fault "a place that is put anew taken for a steady one" copies.py 'put.get(i, []) == ([] if i <= given else [True])' '(i <= given or put.get(i, [False])[0])'
+fault "a place that is lent taken for a steady one" copies.py 'if i not in lent and' 'if'
+fault "a second name of another part" copies.py 'place["steps"] + form["steps"]' 'form["steps"] + place["steps"]'
+fault "an answer handed on without its last part" body.py 'for part in self.answer_parts(t)], "}"]' 'for part in self.answer_parts(t)[:-1] or [""]], "}"]'
 fault "an offset of one too many" values.py 'return f"{a} + (size_t){b}"' 'return f"{a} + (size_t){b} + 1"'
 fault "a wrapping sum that is not one" idioms.py '{"Op2": [{"Add": "Unsigned"}' '{"Op2": ["Or"'
 fault "a null pointer passed on" exports.py '(p != NULL ? p : &rt_nothing)' '(p)'

@@ -10,6 +10,7 @@ import sys
 
 import body
 import calls
+import copies
 import exports
 import forms
 import idioms
@@ -48,7 +49,7 @@ def read(folders):
 def reached(functions, starts):
     """The instances that these call, and so on, in the order of their names and in the forms that are known here, and the shapes of their types."""
     found, shapes = Instances(functions, starts).written()
-    written = {name: idioms.shortened(forms.known(found[name])) for name in sorted(found)}
+    written = {name: copies.forwarded(idioms.shortened(forms.known(found[name]))) for name in sorted(found)}
     if len({c_name(name) for name in written}) != len(written):
         raise Unknown("two functions with one C name")
     return written, shapes

@@ -4,6 +4,10 @@ from shapes import POINTER, UNIT, Unknown, c_name, one
 from values import bits, number
 
 
+# Bytes of a struct that comes back in registers at the most.
+PACKED = 16
+
+
 class Body(Constants):
     """The C lines of one function."""
 
@@ -69,24 +73,25 @@ class Body(Constants):
             self.lines.append(f"{target} = ({c}){{ {{ {', '.join(text for text, _ in given)} }} }};")
             return
         names, types = self.members(t, parts)
-        self.same([g for _, g in given], types, "aggregate")
+        self.same([g for _, g in given], [self.shapes.c(part) for part in types], "aggregate")
         if any("Deref" in step for step in to["steps"]) or any("Copy" in o and o["Copy"]["local"] == to["local"] for o in parts if isinstance(o, dict)):
             inside = ", ".join(f".{n} = {text}" for n, (text, _) in zip(names, given)) or "0"
             self.lines.append(f"{target} = ({c}){{ {inside} }};")
         else:
-            self.lines += [f"{target}.{n} = {text};" for n, (text, _) in zip(names, given)] or [f"{target}.none = 0;"]
+            whole = [(f"{target}.{n}", text, part) for n, (text, _), of in zip(names, given, types) for part in self.parts(of)]
+            self.lines += [f"{to}{part} = {text}{part};" for to, text, part in whole] or [f"{target}.none = 0;"]
 
     def members(self, t, parts):
-        """The C names and types of what an aggregate of t holds, without units."""
+        """The C names and the types of what an aggregate of t holds, without units."""
         word, of = one(t, "aggregate")
         if word == "Struct":
-            return ["p", "n"], [POINTER, "uint64_t"]
+            return ["p", "n"], ["Ptr", {"Int": 64}]
         kind, held = one(self.shapes.named[of["name"]], "shape")
         if kind == "Fields":
-            return [f"f{i}" for i, f in enumerate(held) if f != UNIT], [self.shapes.c(f) for f in held if f != UNIT]
+            return [f"f{i}" for i, f in enumerate(held) if f != UNIT], [f for f in held if f != UNIT]
         k = one(parts[0], "tag")[1]["value"]
         places = self.shapes.slots(of["name"])[1][k]
-        return ["tag"] + [f"s{j}" for j in places if j is not None], ["uint8_t"] + [self.shapes.c(f) for f in held[k] if f != UNIT]
+        return ["tag"] + [f"s{j}" for j in places if j is not None], [{"Int": 8}] + [f for f in held[k] if f != UNIT]
 
     def repeat(self, target, t, of):
         """One value in every place of an array."""
@@ -105,6 +110,26 @@ class Body(Constants):
         kind, held = one(self.shapes.named[of["name"]], "shape") if word == "Named" else (word, None)
         held = [(i, field) for i, field in enumerate(held) if field != UNIT] if kind == "Fields" else []
         return [part for i, field in held for part in self.parts(field, f"{before}.f{i}")] or [before]
+
+    def answer_parts(self, t, before=""):
+        """The parts of an answer that comes back in memory, enums by tag and slots: what is stored and copied by the same pieces has no copy that waits. An enum whose
+        slots hold pointers is one part, since a pointer that is not set is not to be read."""
+        word, of = one(t, "type") if isinstance(t, dict) else (t, None)
+        kind, held = one(self.shapes.named[of["name"]], "shape") if word == "Named" else (word, None)
+        if kind == "Variants":
+            slots = self.shapes.slot_types(of["name"])
+            held = [] if any(self.points(slot) for slot in slots) else [("tag", {"Int": 8}), *((f"s{j}", slot) for j, slot in enumerate(slots))]
+        else:
+            held = [(f"f{i}", field) for i, field in enumerate(held) if field != UNIT] if kind == "Fields" else []
+        return [part for name, of in held for part in self.answer_parts(of, f"{before}.{name}")] or [before]
+
+    def points(self, t):
+        """Whether a value of t holds a pointer."""
+        word, of = one(t, "type") if isinstance(t, dict) else (t, None)
+        if word != "Named":
+            return word in ("Ptr", "Ref", "Struct") or word == "Array" and self.points(of[0])
+        kind, held = one(self.shapes.named[of["name"]], "shape")
+        return any(self.points(f) for fields in ([held] if kind == "Fields" else held) for f in fields)
 
     # Statements, in the order in which a walk meets them
 
@@ -134,10 +159,16 @@ class Body(Constants):
         elif self.kept(of[2]):
             target, t = self.place(of[2])
             self.same(self.shapes.c(to["locals"][0]["ty"]), self.shapes.c(t), f"result of {callee}")
+            if target == "l0" and self.shapes.laid(t)[0] > PACKED:
+                return self.handed_on(t, text)
             text = f"{target} = {text}"
         else:
             text = "(void)" + text
         self.lines.append(text)
+
+    def handed_on(self, t, text):
+        """What a call answers as the answer: taken by its parts. Put into l0 at once, l0 would stand in memory on every way through the function."""
+        self.lines += ["{", f"{self.shapes.c(t)} r = {text}", *[f"l0{part} = r{part};" for part in self.answer_parts(t)], "}"]
 
     def statement(self, walk, around=()):
         """The next statement; `around` has the labels that leave or repeat the blocks and loops around it, the innermost first."""

@@ -3,8 +3,8 @@
 A struct of more than a word comes back from a call packed, or in memory: stored field by field and then copied by more bytes at a time, for which a processor
 lets the copy wait, some tens of cycles for each call. So a function that answers one is expanded in place, unless code is to be small. One that calls itself
 cannot be, and what it calls is left to the compiler: its own memory is there once for each level. A short function that was written for many types, or is an
-impl's or a closure's, is expanded in place everywhere: iterators, `?` and closures then cost what a loop and a branch do. A function with much memory of its own is kept apart, so that
-this is given back before its caller asks for more."""
+impl's or a closure's, is expanded in place everywhere, small code or not: iterators, `?` and closures then cost what a loop and a branch do, and a call of one takes more
+bytes than its body. A function with much memory of its own is kept apart, so that this is given back before its caller asks for more."""
 # Bytes of a word; bytes of locals above which a function is kept apart.
 WORD = 8
 MEMORY = 4096
@@ -23,6 +23,11 @@ WORDS = """\
 #define RT_HERE inline __attribute__((always_inline))
 #else
 #define RT_HERE inline
+#endif
+#if defined(__GNUC__) && defined(__OPTIMIZE__)
+#define RT_WITHIN inline __attribute__((always_inline))
+#else
+#define RT_WITHIN inline
 #endif"""
 
 
@@ -55,8 +60,8 @@ class Calls:
         types = [local["ty"] for local in self.functions[name]["locals"]]
         if sum(shapes.laid(t)[0] for i, t in enumerate(types) if i not in constants) > MEMORY:
             return "RT_APART"
-        if shapes.laid(types[0])[0] > WORD and name not in self.again | self.by_these:
-            return "RT_HERE"
         if self.helps(name) and name not in self.again and sum(shapes.laid(t)[0] for t in types) <= HELPER_BYTES:
+            return "RT_WITHIN"
+        if shapes.laid(types[0])[0] > WORD and name not in self.again | self.by_these:
             return "RT_HERE"
         return "inline"
