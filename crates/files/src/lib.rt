@@ -1,11 +1,11 @@
 // Files that arguments name and the standard streams, read whole into a lent buffer and written from one.
 #![tactic(auto)]
 
-ghost use Rattle.std.specs.Prelude.{IfOk, IfErr, MatchResult};
+ghost use Rattle.std.specs.Prelude.{◌≤◌, length, IfOk, IfErr, MatchResult};
 ghost use Rattle.io.specs.Counts.{IsPrefixLen};
 ghost use Rattle.files.specs.Failures.{OfInput, OfOutput, OfFile};
 
-use arrayvec::ArrayString;
+use arrayvec::{ArrayString, ArrayVec};
 use std::env::{Env, FillError};
 use std::fmt::Write as FmtWrite;
 use std::fs::File;
@@ -18,7 +18,14 @@ pub enum Place {
     Input,
     Output,
     Argument,
-    File(String),
+    File(FileName),
+}
+
+// The name of a file, a text, in the value itself: no heap is needed where reading or writing failed.
+// The bytes are an `ArrayVec`: callers that hand on an enum with an `ArrayString` or an array get no proof.
+#[derive(Debug, Drop)]
+pub struct FileName {
+    bytes: ArrayVec<u8, NAME>,
 }
 
 // Why a program reads or writes nothing: it was called in another way than its help says; or reading or writing failed there.
@@ -40,6 +47,15 @@ const NAME: usize = 4096;
 
 // The longest text of an error.
 const TEXT: usize = 320;
+
+impl fmt::Display for FileName {
+    fn fmt<W: fmt::Write>(&self, f: &mut fmt::Formatter<W>) -> fmt::Result {
+        match str::from_utf8(self.bytes.as_slice()) {
+            Ok(name) => write!(f, "{name}"),
+            Err(_) => Err(fmt::Error),
+        }
+    }
+}
 
 impl fmt::Display for Place {
     fn fmt<W: fmt::Write>(&self, f: &mut fmt::Formatter<W>) -> fmt::Result {
@@ -110,34 +126,45 @@ pub fn input(rt: &HostRuntime, buf: &mut [u8]) -> Result<usize, Failure>
     fill(&mut rt.stdin(), buf).map_err(|why| Failure::Io(Place::Input, why))
 }
 
-// Argument i. An argument that is too long or no text has an error of its own, which the `Args` of std do not tell apart.
-fn name(rt: &HostRuntime, i: usize) -> io::Result<String> {
-    let mut buf = [0u8; NAME];
-    let n = match rt.arg(i, &mut buf) {
+// Argument i, in the front of a buffer. An argument that is too long or no text has an error of its own, which the `Args` of std do not tell apart.
+fn name<'a>(rt: &HostRuntime, i: usize, buf: &'a mut [u8; NAME]) -> io::Result<&'a str>
+    ensures { IfOk result (λ s. length s.now ≤ NAME) }
+{
+    let n = match rt.arg(i, buf) {
         Ok(n) => n,
         Err(FillError::NotPresent) => return Err(io::Error::from_raw_os_error(INVALID)),
         Err(FillError::TooLong) => return Err(io::Error::from_raw_os_error(TOO_LONG)),
     };
-    let Ok(text) = str::from_utf8(&buf[..n]) else {
-        return Err(io::Error::from_raw_os_error(NO_TEXT));
-    };
-    Ok(String::from_str(rt.alloc(), text)?)
+    str::from_utf8(&buf[..n]).map_err(|_| io::Error::from_raw_os_error(NO_TEXT))
 }
 
-fn path(rt: &HostRuntime, i: usize) -> Result<String, Failure>
-    ensures { IfErr result OfFile }
+fn path<'a>(rt: &HostRuntime, i: usize, buf: &'a mut [u8; NAME]) -> Result<&'a str, Failure>
+    ensures { MatchResult result (λ s. length s.now ≤ NAME) OfFile }
 {
-    name(rt, i).map_err(|why| Failure::Io(Place::Argument, why))
+    name(rt, i, buf).map_err(|why| Failure::Io(Place::Argument, why))
+}
+
+// What failed at a file. Only here is its name copied.
+fn at_file(path: &str, why: io::Error) -> Failure
+    requires { length path.now ≤ NAME }
+    ensures { OfFile result }
+{
+    let mut bytes = ArrayVec::new();
+    if bytes.try_extend_from_slice(path.as_bytes()).is_err() {
+        unreachable!();
+    }
+    Failure::Io(Place::File(FileName { bytes }), why)
 }
 
 // The bytes of the file that argument i names; how many.
 pub fn load(rt: &HostRuntime, i: usize, buf: &mut [u8]) -> Result<usize, Failure>
     ensures { MatchResult result (λ n. IsPrefixLen n buf.new) OfFile }
 {
-    let path = path(rt, i)?;
-    match load_named(rt, path.as_str(), buf) {
+    let mut name = [0u8; NAME];
+    let path = path(rt, i, &mut name)?;
+    match load_named(rt, path, buf) {
         Ok(n) => Ok(n),
-        Err(why) => Err(Failure::Io(Place::File(path), why)),
+        Err(why) => Err(at_file(path, why)),
     }
 }
 
@@ -160,9 +187,10 @@ pub fn output(rt: &HostRuntime, bytes: &[u8]) -> Result<(), Failure>
 pub fn store(rt: &HostRuntime, i: usize, bytes: &[u8]) -> Result<(), Failure>
     ensures { IfErr result OfFile }
 {
-    let path = path(rt, i)?;
-    match fs::write(rt, path.as_str(), bytes) {
+    let mut name = [0u8; NAME];
+    let path = path(rt, i, &mut name)?;
+    match fs::write(rt, path, bytes) {
         Ok(()) => Ok(()),
-        Err(why) => Err(Failure::Io(Place::File(path), why)),
+        Err(why) => Err(at_file(path, why)),
     }
 }
