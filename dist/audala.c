@@ -40,6 +40,11 @@ RT_ASSERT(pointer, offsetof(rt_slice, p) == 0);
 #else
 #define RT_WITHIN inline
 #endif
+#if defined(__GNUC__) && defined(__OPTIMIZE_SIZE__)
+#define RT_SHORT inline __attribute__((always_inline))
+#else
+#define RT_SHORT inline
+#endif
 RT_ASSERT(audala_counts, sizeof(audala_counts) == 16);
 RT_ASSERT(audala_counts_number, offsetof(audala_counts, number) == 0);
 RT_ASSERT(audala_counts_true_orders, offsetof(audala_counts, true_orders) == 4);
@@ -982,14 +987,14 @@ static uint64_t rt_signed_div(uint64_t a, uint64_t b)
 }
 static inline struct core__result__Result__u32_OperatorError arithmetic__apply_bool(struct operators__Operator l1, uint8_t l2, uint8_t l3);
 static inline struct core__result__Result__u32_OperatorError arithmetic__apply_int(struct operators__Operator l1, uint32_t l2, uint32_t l3);
-static inline struct core__result__Result__u32_OperatorError arithmetic__apply_label(struct operators__Operator l1, uint32_t l2, uint32_t l3);
+static RT_SHORT struct core__result__Result__u32_OperatorError arithmetic__apply_label(struct operators__Operator l1, uint32_t l2, uint32_t l3);
 static inline struct core__result__Result__u32_OperatorError arithmetic__apply_nat(struct operators__Operator l1, uint32_t l2, uint32_t l3);
-static inline struct core__result__Result__u32_OperatorError arithmetic__apply_word(uint8_t l1, uint8_t l2, uint32_t l3, uint32_t l4);
-static inline struct core__result__Result__u32_OperatorError arithmetic__int_answer(uint64_t l1);
-static inline uint64_t arithmetic__int_of(uint32_t l1);
+static RT_SHORT struct core__result__Result__u32_OperatorError arithmetic__apply_word(uint8_t l1, uint8_t l2, uint32_t l3, uint32_t l4);
+static RT_SHORT struct core__result__Result__u32_OperatorError arithmetic__int_answer(uint64_t l1);
+static RT_SHORT uint64_t arithmetic__int_of(uint32_t l1);
 static RT_HERE struct core__result__Result__u64_OperatorError arithmetic__quotient_of(uint64_t l1, uint64_t l2);
 static RT_HERE struct core__result__Result__u64_OperatorError arithmetic__remainder_of(uint64_t l1, uint64_t l2);
-static inline struct core__result__Result__u32_OperatorError arithmetic__truth(struct core__option__Option__bool l1);
+static RT_SHORT struct core__result__Result__u32_OperatorError arithmetic__truth(struct core__option__Option__bool l1);
 static RT_WITHIN struct audala__Answer audala__AnswerFromVerdict__from(struct checker__Verdict l1);
 static RT_WITHIN struct audala__Report audala__ReportFromRun_imagesReport__from(struct run_images__Report l1);
 static RT_HERE struct audala__Answer audala__audala_check(rt_slice l1, rt_slice l2);
@@ -1002,7 +1007,7 @@ static RT_WITHIN struct audala__images__Copied audala__images__CopiedFromResultU
 static RT_HERE struct audala__images__Copied audala__images__audala_read_image(rt_slice l1, uint64_t l2, rt_slice l3);
 static RT_HERE struct audala__images__Copied audala__images__audala_write_image(rt_slice l1, uint64_t l2, rt_slice l3);
 static RT_HERE struct audala__images__Copied audala__listings__audala_listing(rt_slice l1, rt_slice l2);
-static inline struct audala__places__Stopped audala__places__audala_place(rt_slice l1);
+static RT_SHORT struct audala__places__Stopped audala__places__audala_place(rt_slice l1);
 static RT_WITHIN struct audala__tallies__Counts audala__tallies__CountsFromCount_imagesCounts__from(struct count_images__Counts l1);
 static RT_HERE struct audala__tallies__Counts audala__tallies__audala_count(rt_slice l1, rt_slice l2, uint32_t l3, uint32_t l4, uint32_t l5, rt_slice l6);
 static RT_WITHIN struct audala__images__Copied audala__texts__CopiedFromRead_textAnswer__from(struct read_text__Answer l1);
@@ -1010,52 +1015,52 @@ static RT_HERE struct audala__images__Copied audala__texts__audala_text(rt_slice
 static RT_WITHIN struct audala__traces__Traced audala__traces__TracedFromTrace_imagesTraced__from(struct trace_images__Traced l1);
 static RT_HERE struct audala__traces__Traced audala__traces__audala_trace(rt_slice l1, rt_slice l2, rt_slice l3, uint64_t l4, rt_slice l5);
 static inline struct core__option__Option__Fault block__block_fault(rt_slice l1, uint64_t l2, uint8_t l3);
-static inline uint8_t block__filled(rt_slice l1, uint8_t l2);
+static RT_SHORT uint8_t block__filled(rt_slice l1, uint8_t l2);
 static RT_WITHIN uint8_t block__fn__zeros__all(uint8_t *l1, uint8_t *l2);
 static RT_WITHIN uint8_t block__fn__zeros__all_FnMut__call_mut(uint8_t *l1, uint8_t *l2);
-static inline uint8_t block__laid_out(rt_slice l1, uint64_t l2, uint8_t l3);
+static RT_SHORT uint8_t block__laid_out(rt_slice l1, uint64_t l2, uint8_t l3);
 static RT_HERE rt_slice block__payload(rt_slice l1, uint64_t l2);
-static inline void block__put__copy(rt_slice l1, uint64_t l2, rt_slice l3);
-static inline void block__put__zeros(rt_slice l1, uint64_t l2, uint64_t l3);
+static RT_SHORT void block__put__copy(rt_slice l1, uint64_t l2, rt_slice l3);
+static RT_SHORT void block__put__zeros(rt_slice l1, uint64_t l2, uint64_t l3);
 static inline struct block__Both block__sums(rt_slice l1);
-static inline uint8_t block__sums_right(rt_slice l1);
-static inline uint8_t block__used_right(uint8_t l1, uint64_t l2);
+static RT_SHORT uint8_t block__sums_right(rt_slice l1);
+static RT_SHORT uint8_t block__used_right(uint8_t l1, uint64_t l2);
 static inline void block__writing__put_block(rt_slice l1, uint64_t l2, uint64_t l3, rt_slice l4);
 static inline void block__writing__put_front(rt_slice l1, uint64_t l2, uint64_t l3, rt_slice l4);
-static inline uint8_t block__zeros(rt_slice l1);
-static inline struct core__option__Option__Fault blocks__image_fault(rt_slice l1, uint64_t l2);
+static RT_SHORT uint8_t block__zeros(rt_slice l1);
+static RT_SHORT struct core__option__Option__Fault blocks__image_fault(rt_slice l1, uint64_t l2);
 static RT_HERE struct core__result__Result__u64_Fault blocks__open_image(rt_slice l1, uint64_t l2, rt_slice l3);
-static inline struct types__refusal__Refusal blocks__program_number(struct block__Fault l1);
+static RT_SHORT struct types__refusal__Refusal blocks__program_number(struct block__Fault l1);
 static RT_HERE struct core__result__Result__u64_ReadError blocks__read_image(rt_slice l1, uint64_t l2, rt_slice l3);
 static inline struct core__option__Option__Fault blocks__reading__first_fault(rt_slice l1, uint64_t l2);
 static inline void blocks__reading__join(rt_slice l1, uint64_t l2, rt_slice l3);
-static inline uint8_t blocks__reading__length_right(uint64_t l1, uint64_t l2);
-static inline uint64_t blocks__reading__most(uint64_t l1);
-static inline uint64_t blocks__reading__stream_length(rt_slice l1, uint64_t l2);
-static inline struct types__refusal__Refusal blocks__table_number(struct block__Fault l1);
+static RT_SHORT uint8_t blocks__reading__length_right(uint64_t l1, uint64_t l2);
+static RT_SHORT uint64_t blocks__reading__most(uint64_t l1);
+static RT_SHORT uint64_t blocks__reading__stream_length(rt_slice l1, uint64_t l2);
+static RT_SHORT struct types__refusal__Refusal blocks__table_number(struct block__Fault l1);
 static RT_HERE struct core__result__Result__u64_WriteError blocks__write_image(rt_slice l1, uint64_t l2, rt_slice l3);
 static RT_HERE rt_slice blocks__writing__piece(rt_slice l1, uint64_t l2);
 static inline void blocks__writing__put_blocks(rt_slice l1, uint64_t l2, rt_slice l3);
-static inline uint8_t blocks__writing__stream_right(uint64_t l1, uint64_t l2);
-static inline struct checker__Verdict checker__accepted(struct load__Loaded l1);
+static RT_SHORT uint8_t blocks__writing__stream_right(uint64_t l1, uint64_t l2);
+static RT_SHORT struct checker__Verdict checker__accepted(struct load__Loaded l1);
 static RT_APART struct checker__Verdict checker__check(rt_slice l1, rt_slice l2);
-static inline struct checker__Verdict checker__refused(uint8_t l1);
+static RT_SHORT struct checker__Verdict checker__refused(uint8_t l1);
 static RT_WITHIN struct core__result__Result__Kind_UnknownKind commands__kind__KindTryFromU64__try_from(uint64_t l1);
 static RT_WITHIN uint64_t commands__kind__U64FromKind__from(struct commands__kind__Kind l1);
-static inline struct emit__Put compile__items__add(rt_slice l1, struct emit__Put l2, uint64_t l3);
+static RT_SHORT struct emit__Put compile__items__add(rt_slice l1, struct emit__Put l2, uint64_t l3);
 static inline struct emit__Put compile__items__item(rt_slice l1, uint64_t l2, uint64_t l3, rt_slice l4, uint64_t l5);
 static inline struct emit__Put compile__items__items(rt_slice l1, uint64_t l2, uint64_t l3, rt_slice l4, uint64_t l5);
 static RT_HERE struct emit__Put compile__items__schedule(rt_slice l1, uint64_t l2, rt_slice l3);
-static inline void compile__program(rt_slice l1, uint64_t l2, uint64_t l3, rt_slice l4, uint64_t l5, rt_slice l6, rt_slice l7);
+static RT_SHORT void compile__program(rt_slice l1, uint64_t l2, uint64_t l3, rt_slice l4, uint64_t l5, rt_slice l6, rt_slice l7);
 static inline void compile__spans__clear(rt_slice l1, uint64_t l2);
-static inline void compile__spans__note(rt_slice l1, uint64_t l2, rt_slice l3);
-static inline void compile__spans__note_row(rt_slice l1, struct directory__Row l2);
-static inline void compile__spans__of_rows(rt_slice l1, uint64_t l2, uint64_t l3, rt_slice l4);
-static inline void compile__spans__pair(rt_slice l1, uint64_t l2, uint16_t l3, uint16_t l4);
+static RT_SHORT void compile__spans__note(rt_slice l1, uint64_t l2, rt_slice l3);
+static RT_SHORT void compile__spans__note_row(rt_slice l1, struct directory__Row l2);
+static RT_SHORT void compile__spans__of_rows(rt_slice l1, uint64_t l2, uint64_t l3, rt_slice l4);
+static RT_SHORT void compile__spans__pair(rt_slice l1, uint64_t l2, uint16_t l3, uint16_t l4);
 static RT_HERE struct composing__Pen composing__bytes__behind(rt_slice l1, rt_slice l2, struct composing__Pen l3, uint8_t l4, uint32_t l5);
 static RT_HERE struct composing__Pen composing__bytes__formed(rt_slice l1, struct composing__Pen l2, uint8_t l3);
 static RT_HERE struct composing__Pen composing__bytes__lengthened(struct composing__Pen l1);
-static inline uint8_t composing__bytes__low(uint32_t l1);
+static RT_SHORT uint8_t composing__bytes__low(uint32_t l1);
 static RT_HERE struct composing__Pen composing__bytes__numbered(rt_slice l1, rt_slice l2, struct composing__Pen l3);
 static RT_HERE struct composing__Pen composing__bytes__pathed(rt_slice l1, struct composing__Pen l2);
 static RT_HERE struct composing__Pen composing__bytes__spoilt(struct composing__Pen l1);
@@ -1063,15 +1068,15 @@ static RT_HERE struct composing__Pen composing__bytes__worded(rt_slice l1, struc
 static RT_HERE struct composing__Pen composing__bytes__wrote(rt_slice l1, struct composing__Pen l2, uint8_t l3);
 static inline uint64_t composing__header__row(rt_slice l1, rt_slice l2, uint64_t l3, uint64_t l4, uint64_t l5);
 static inline uint64_t composing__header__write_header(rt_slice l1, rt_slice l2, rt_slice l3, uint64_t l4);
-static inline uint32_t composing__literal(rt_slice l1, uint64_t l2, uint8_t l3);
+static RT_SHORT uint32_t composing__literal(rt_slice l1, uint64_t l2, uint8_t l3);
 static RT_HERE struct composing__Pen composing__pouring__begun(rt_slice l1, rt_slice l2, struct composing__Pen l3);
 static RT_HERE struct composing__Pen composing__pouring__first(rt_slice l1, rt_slice l2, struct composing__Pen l3, uint8_t l4, uint8_t l5);
 static RT_HERE struct composing__Pen composing__pouring__poured(rt_slice l1, rt_slice l2, struct composing__Pen l3, uint8_t l4);
 static inline uint8_t composing__pouring__tightness(uint8_t l1);
 static RT_HERE struct composing__Pen composing__roles__put(rt_slice l1, rt_slice l2, rt_slice l3, struct composing__Pen l4, uint8_t l5, uint32_t l6);
-static inline uint8_t composing__roomy(struct composing__Pen l1);
+static RT_SHORT uint8_t composing__roomy(struct composing__Pen l1);
 static RT_HERE struct core__option__Option__u64 composing__stream(rt_slice l1, rt_slice l2, rt_slice l3, rt_slice l4, rt_slice l5, rt_slice l6, rt_slice l7);
-static inline uint8_t composing__table__mark(uint64_t l1, uint64_t l2);
+static RT_SHORT uint8_t composing__table__mark(uint64_t l1, uint64_t l2);
 static RT_HERE rt_slice composing__table__marks(void);
 static RT_HERE struct composing__Pen composing__waiting__counted(rt_slice l1, rt_slice l2, struct composing__Pen l3);
 static RT_HERE struct composing__Pen composing__waiting__more(rt_slice l1, struct composing__Pen l2, uint8_t l3);
@@ -1093,17 +1098,17 @@ static RT_WITHIN void core__Destruct__none__drop__u32(uint32_t l1);
 static RT_WITHIN void core__Destruct__none__drop__u64(uint64_t l1);
 static RT_WITHIN void core__Destruct__none__drop__u8(uint8_t l1);
 static RT_WITHIN void core__Destruct__none__drop__unit(void);
-static inline void core__assertions__unreachable(void);
-static inline uint8_t core__char__bytes__is_ascii_alphabetic(uint8_t *l1);
-static inline uint8_t core__char__bytes__is_ascii_alphanumeric(uint8_t *l1);
-static inline uint8_t core__char__bytes__is_ascii_digit(uint8_t *l1);
-static inline uint8_t core__char__ranges__in_range(uint32_t l1, uint8_t l2, uint8_t l3);
+static RT_SHORT void core__assertions__unreachable(void);
+static RT_SHORT uint8_t core__char__bytes__is_ascii_alphabetic(uint8_t *l1);
+static RT_SHORT uint8_t core__char__bytes__is_ascii_alphanumeric(uint8_t *l1);
+static RT_SHORT uint8_t core__char__bytes__is_ascii_digit(uint8_t *l1);
+static RT_SHORT uint8_t core__char__ranges__in_range(uint32_t l1, uint8_t l2, uint8_t l3);
 static inline uint8_t core__char__ranges__in_three_ranges(uint32_t l1, uint8_t l2, uint8_t l3, uint8_t l4, uint8_t l5, uint8_t l6, uint8_t l7);
-static inline uint8_t core__char__ranges__in_two_ranges(uint32_t l1, uint8_t l2, uint8_t l3, uint8_t l4, uint8_t l5);
+static RT_SHORT uint8_t core__char__ranges__in_two_ranges(uint32_t l1, uint8_t l2, uint8_t l3, uint8_t l4, uint8_t l5);
 static RT_WITHIN struct core__result__Result__u8_AllocError core__clone__U8Clone__clone(uint8_t *l1);
 static RT_WITHIN uint8_t core__clone__surely__u8(uint8_t *l1);
-static inline uint8_t core__cmp__Ordering__is_le(struct core__cmp__Ordering l1);
-static inline uint8_t core__cmp__Ordering__is_lt(struct core__cmp__Ordering l1);
+static RT_SHORT uint8_t core__cmp__Ordering__is_le(struct core__cmp__Ordering l1);
+static RT_SHORT uint8_t core__cmp__Ordering__is_lt(struct core__cmp__Ordering l1);
 static RT_WITHIN uint8_t core__cmp__PartialOrd__le__u8(uint8_t *l1, uint8_t *l2);
 static RT_WITHIN uint8_t core__cmp__PartialOrd__lt__u8(uint8_t *l1, uint8_t *l2);
 static RT_WITHIN struct core__cmp__Ordering core__cmp__numbers__U8Ord__cmp(uint8_t *l1, uint8_t *l2);
@@ -1137,28 +1142,28 @@ static RT_WITHIN struct rt_tuple3__Slots_u64_unit_unit core__core__slice__edits_
 static RT_WITHIN struct rt_tuple3__Slots_u8_unit_unit core__core__slice__edits__copy_over_FnOnce__call_once__u8(struct core__slots__Slots__u8 l2, rt_slice l4);
 static RT_WITHIN uint16_t core__default__U16Default__default(void);
 static RT_WITHIN uint64_t core__default__U64Default__default(void);
-static inline struct core__option__Option__u32 core__int__checked__u32__checked_add(uint32_t l1, uint32_t l2);
-static inline struct core__option__Option__u32 core__int__checked__u32__checked_div(uint32_t l1, uint32_t l2);
-static inline struct core__option__Option__u32 core__int__checked__u32__checked_mul(uint32_t l1, uint32_t l2);
-static inline struct core__option__Option__u32 core__int__checked__u32__checked_rem(uint32_t l1, uint32_t l2);
-static inline struct core__option__Option__u32 core__int__checked__u32__checked_sub(uint32_t l1, uint32_t l2);
-static inline struct core__option__Option__u8 core__int__checked__u8__checked_sub(uint8_t l1, uint8_t l2);
+static RT_SHORT struct core__option__Option__u32 core__int__checked__u32__checked_add(uint32_t l1, uint32_t l2);
+static RT_SHORT struct core__option__Option__u32 core__int__checked__u32__checked_div(uint32_t l1, uint32_t l2);
+static RT_SHORT struct core__option__Option__u32 core__int__checked__u32__checked_mul(uint32_t l1, uint32_t l2);
+static RT_SHORT struct core__option__Option__u32 core__int__checked__u32__checked_rem(uint32_t l1, uint32_t l2);
+static RT_SHORT struct core__option__Option__u32 core__int__checked__u32__checked_sub(uint32_t l1, uint32_t l2);
+static RT_SHORT struct core__option__Option__u8 core__int__checked__u8__checked_sub(uint8_t l1, uint8_t l2);
 static RT_HERE struct core__option__Option__u64 core__int__checked__usize__checked_sub(uint64_t l1, uint64_t l2);
-static inline uint32_t core__int__i32__cast_unsigned(uint32_t l1);
-static inline uint64_t core__int__i64__div_euclid(uint64_t l1, uint64_t l2);
-static inline uint16_t core__int__u16__from_le_bytes(struct rt_array_uint8_2 l1);
-static inline uint16_t core__int__u16__saturating_sub(uint16_t l1, uint16_t l2);
-static inline struct rt_array_uint8_2 core__int__u16__to_le_bytes(uint16_t l1);
-static inline uint32_t core__int__u32__cast_signed(uint32_t l1);
+static RT_SHORT uint32_t core__int__i32__cast_unsigned(uint32_t l1);
+static RT_SHORT uint64_t core__int__i64__div_euclid(uint64_t l1, uint64_t l2);
+static RT_SHORT uint16_t core__int__u16__from_le_bytes(struct rt_array_uint8_2 l1);
+static RT_SHORT uint16_t core__int__u16__saturating_sub(uint16_t l1, uint16_t l2);
+static RT_SHORT struct rt_array_uint8_2 core__int__u16__to_le_bytes(uint16_t l1);
+static RT_SHORT uint32_t core__int__u32__cast_signed(uint32_t l1);
 static inline uint32_t core__int__u32__from_le_bytes(struct rt_array_uint8_4 l1);
 static inline struct rt_array_uint8_4 core__int__u32__to_le_bytes(uint32_t l1);
-static inline uint64_t core__int__u64__min(uint64_t l1, uint64_t l2);
-static inline uint8_t core__int__u8__min(uint8_t l1, uint8_t l2);
-static inline uint8_t core__int__u8__saturating_sub(uint8_t l1, uint8_t l2);
-static inline uint64_t core__int__usize__div_ceil(uint64_t l1, uint64_t l2);
-static inline uint64_t core__int__usize__max(uint64_t l1, uint64_t l2);
-static inline uint64_t core__int__usize__min(uint64_t l1, uint64_t l2);
-static inline uint64_t core__int__usize__saturating_sub(uint64_t l1, uint64_t l2);
+static RT_SHORT uint64_t core__int__u64__min(uint64_t l1, uint64_t l2);
+static RT_SHORT uint8_t core__int__u8__min(uint8_t l1, uint8_t l2);
+static RT_SHORT uint8_t core__int__u8__saturating_sub(uint8_t l1, uint8_t l2);
+static RT_SHORT uint64_t core__int__usize__div_ceil(uint64_t l1, uint64_t l2);
+static RT_SHORT uint64_t core__int__usize__max(uint64_t l1, uint64_t l2);
+static RT_SHORT uint64_t core__int__usize__min(uint64_t l1, uint64_t l2);
+static RT_SHORT uint64_t core__int__usize__saturating_sub(uint64_t l1, uint64_t l2);
 static RT_WITHIN uint8_t core__iter__base__Iterator__all__Iter_u8_ref_u8_all_Self(uint8_t *l1, struct block__fn__zeros__all_Self l2);
 static RT_WITHIN uint8_t core__iter__ranges__RangeInclusive__contains__u8(uint8_t *l1, uint8_t *l2);
 static RT_WITHIN struct core__iter__ranges__RangeInclusive__u8 core__iter__ranges__RangeInclusive__new__u8(uint8_t l1, uint8_t l2);
@@ -1275,48 +1280,48 @@ static RT_APART struct core__result__Result__count_images_Counts_Refusal count_i
 static RT_APART struct count_images__Counts count_images__count(rt_slice l1, rt_slice l2, uint32_t l3, uint32_t l4, uint32_t l5, rt_slice l6);
 static inline uint8_t count_images__has_step(rt_slice l1, uint64_t l2, uint64_t l3);
 static inline struct core__result__Result__unit_Refusal count_images__placed(rt_slice l1, struct table_read__parameters__Parameters l2, uint64_t l3, struct count_images__Question l4);
-static inline void count_images__prepared(rt_slice l1, rt_slice l2, rt_slice l3, struct count_images__Asking l4, rt_slice l5, rt_slice l6);
+static RT_SHORT void count_images__prepared(rt_slice l1, rt_slice l2, rt_slice l3, struct count_images__Asking l4, rt_slice l5, rt_slice l6);
 static RT_HERE struct count_images__Counts count_images__refused(uint8_t l1);
 static RT_HERE struct count_images__Counts count_images__settled(struct core__result__Result__count_images_Counts_Refusal l1);
 static RT_WITHIN struct rt_array_uint16_6 counting__copies__part__u16_6(rt_slice l1, uint64_t l2);
 static RT_HERE struct rt_array_uint64_32 counting__copies__part__u64_32(rt_slice l1, uint64_t l2);
 static RT_WITHIN void counting__copies__write__u16(rt_slice l1, uint64_t l2, rt_slice l3);
 static RT_WITHIN void counting__copies__write__u64(rt_slice l1, uint64_t l2, rt_slice l3);
-static inline struct counting__count__Tally counting__count__add(struct counting__count__Tally l1, struct counting__count__Tally l2);
+static RT_SHORT struct counting__count__Tally counting__count__add(struct counting__count__Tally l1, struct counting__count__Tally l2);
 static inline struct counting__count__Tally counting__count__all(struct engine__Machine l1, rt_slice l2, rt_slice l3, rt_slice l4, rt_slice l5, struct counting__count__Asked l6);
-static inline uint64_t counting__count__commands(rt_slice l1, uint64_t l2);
-static inline uint64_t counting__count__held(rt_slice l1, uint64_t l2);
-static inline struct counting__count__Tally counting__count__nothing(void);
+static RT_SHORT uint64_t counting__count__commands(rt_slice l1, uint64_t l2);
+static RT_SHORT uint64_t counting__count__held(rt_slice l1, uint64_t l2);
+static RT_SHORT struct counting__count__Tally counting__count__nothing(void);
 static inline struct counting__count__Tally counting__count__one(struct engine__Machine l1, rt_slice l2, rt_slice l3, rt_slice l4, rt_slice l5, uint64_t l6, struct counting__count__Asked l7);
-static inline struct counting__count__Tally counting__count__resting(rt_slice l1, struct counting__count__Asked l2);
-static inline uint64_t counting__rows__fresh_row(uint64_t l1, uint64_t l2);
+static RT_SHORT struct counting__count__Tally counting__count__resting(rt_slice l1, struct counting__count__Asked l2);
+static RT_SHORT uint64_t counting__rows__fresh_row(uint64_t l1, uint64_t l2);
 static inline void counting__rows__restore(rt_slice l1, rt_slice l2, uint64_t l3, uint64_t l4, struct counting__rows__Saved l5);
-static inline struct counting__rows__Saved counting__rows__save(rt_slice l1, rt_slice l2, rt_slice l3, uint64_t l4, uint64_t l5);
+static RT_SHORT struct counting__rows__Saved counting__rows__save(rt_slice l1, rt_slice l2, rt_slice l3, uint64_t l4, uint64_t l5);
 static inline uint64_t counting__rows__stored_at(rt_slice l1, rt_slice l2, rt_slice l3, uint64_t l4);
 static RT_HERE struct derive__Mark derive__below(rt_slice l1, uint64_t l2, uint8_t l3);
 static RT_HERE struct derive__Mark derive__dead(void);
 static inline uint8_t derive__derived(rt_slice l1, rt_slice l2);
-static inline uint8_t derive__ends(uint8_t l1, uint64_t l2);
-static inline uint64_t derive__entry(uint8_t l1, uint8_t l2);
-static inline uint64_t derive__index(uint8_t l1, uint8_t l2);
+static RT_SHORT uint8_t derive__ends(uint8_t l1, uint64_t l2);
+static RT_SHORT uint64_t derive__entry(uint8_t l1, uint8_t l2);
+static RT_SHORT uint64_t derive__index(uint8_t l1, uint8_t l2);
 static RT_HERE struct derive__Mark derive__moved(rt_slice l1, struct derive__Mark l2, uint8_t l3, uint64_t l4);
 static RT_HERE struct derive__Mark derive__pushed(rt_slice l1, uint64_t l2, uint8_t l3, uint8_t l4);
-static inline void derive__roles__leave(rt_slice l1, uint64_t l2, uint64_t l3, uint8_t l4, struct core__option__Option__u8 l5);
+static RT_SHORT void derive__roles__leave(rt_slice l1, uint64_t l2, uint64_t l3, uint8_t l4, struct core__option__Option__u8 l5);
 static inline struct core__option__Option__u8 derive__roles__renamed(uint8_t l1, uint8_t l2);
 static inline uint8_t derive__roles__role(rt_slice l1, struct derive__Mark l2, uint8_t l3, uint64_t l4);
-static inline uint8_t derive__roles__said(uint8_t l1, uint8_t l2);
+static RT_SHORT uint8_t derive__roles__said(uint8_t l1, uint8_t l2);
 static RT_HERE struct derive__Mark derive__step(rt_slice l1, struct derive__Mark l2, uint8_t l3);
 static inline struct text_shape__Act derive__table__act_at(uint64_t l1);
-static inline uint8_t derive__table__mark_at(uint64_t l1);
+static RT_SHORT uint8_t derive__table__mark_at(uint64_t l1);
 static RT_HERE rt_slice derive__table__marks(void);
 static RT_HERE rt_slice derive__table__next(void);
 static RT_HERE rt_slice derive__table__opened(void);
 static RT_HERE struct core__option__Option__Row directory__rows__find(rt_slice l1, uint8_t l2, uint8_t l3, uint8_t l4);
-static inline uint8_t directory__rows__is_row(struct directory__Row l1, uint16_t l2, uint16_t l3);
-static inline uint16_t directory__rows__look(rt_slice l1, uint64_t l2);
+static RT_SHORT uint8_t directory__rows__is_row(struct directory__Row l1, uint16_t l2, uint16_t l3);
+static RT_SHORT uint16_t directory__rows__look(rt_slice l1, uint64_t l2);
 static inline void directory__rows__put_row(rt_slice l1, uint64_t l2, struct directory__Row l3);
-static inline struct directory__Row directory__rows__row_at(rt_slice l1, uint64_t l2);
-static inline uint8_t directory__rows__there(rt_slice l1, uint8_t l2, uint8_t l3, uint8_t l4);
+static RT_SHORT struct directory__Row directory__rows__row_at(rt_slice l1, uint64_t l2);
+static RT_SHORT uint8_t directory__rows__there(rt_slice l1, uint8_t l2, uint8_t l3, uint8_t l4);
 static inline struct emit__Put emit__exprs__expr(rt_slice l1, rt_slice l2, uint64_t l3, uint64_t l4, rt_slice l5, uint64_t l6);
 static inline struct emit__Put emit__exprs__make(rt_slice l1, rt_slice l2, uint64_t l3, uint64_t l4, rt_slice l5, uint64_t l6);
 static RT_HERE struct emit__Put emit__steps__step(rt_slice l1, rt_slice l2, uint64_t l3, rt_slice l4, uint64_t l5);
@@ -1326,36 +1331,36 @@ static inline struct emit__Put emit__stmts__declare(rt_slice l1, rt_slice l2, ui
 static inline struct emit__Put emit__stmts__stmt(rt_slice l1, rt_slice l2, uint64_t l3, uint64_t l4, rt_slice l5, uint64_t l6);
 static inline struct emit__Put emit__stmts__update(rt_slice l1, rt_slice l2, uint64_t l3, rt_slice l4, uint64_t l5);
 static inline struct emit__Put emit__stmts__when(rt_slice l1, rt_slice l2, uint64_t l3, uint64_t l4, rt_slice l5, uint64_t l6);
-static inline struct emit__Put emit__words__add(rt_slice l1, struct emit__Put l2, uint64_t l3);
-static inline uint64_t emit__words__coded(struct commands__kind__Kind l1, uint64_t l2, uint64_t l3);
+static RT_SHORT struct emit__Put emit__words__add(rt_slice l1, struct emit__Put l2, uint64_t l3);
+static RT_SHORT uint64_t emit__words__coded(struct commands__kind__Kind l1, uint64_t l2, uint64_t l3);
 static inline uint64_t emit__words__leaf(rt_slice l1, uint64_t l2);
-static inline uint64_t emit__words__leaf_size(uint8_t l1);
-static inline uint64_t emit__words__null_word(uint8_t l1);
+static RT_SHORT uint64_t emit__words__leaf_size(uint8_t l1);
+static RT_SHORT uint64_t emit__words__null_word(uint8_t l1);
 static inline struct emit__Put emit__words__path(rt_slice l1, uint64_t l2, rt_slice l3, uint64_t l4);
 static RT_HERE struct emit__Put emit__words__reads(rt_slice l1, uint64_t l2, uint8_t l3, rt_slice l4, uint64_t l5);
-static inline void emit__words__store(rt_slice l1, uint64_t l2, uint64_t l3);
+static RT_SHORT void emit__words__store(rt_slice l1, uint64_t l2, uint64_t l3);
 static RT_HERE struct emit__Put emit__words__target(rt_slice l1, uint64_t l2, rt_slice l3, uint64_t l4);
 static RT_HERE struct emit__Put emit_steps__of_struct(rt_slice l1, rt_slice l2, struct emit__Put l3, rt_slice l4);
 static inline void emit_steps__program(rt_slice l1, rt_slice l2, uint64_t l3, rt_slice l4);
 static RT_HERE struct engine__Machine engine__Machine__advance(struct engine__Machine l1, rt_slice l2, rt_slice l3, rt_slice l4);
 static inline struct engine__Machine engine__Machine__command(struct engine__Machine l1, rt_slice l2, rt_slice l3, rt_slice l4, rt_slice l5, uint64_t l6);
 static RT_HERE struct layout__Numbers engine__after(struct layout__Numbers l1, struct core__result__Result__Effect_Refusal l2);
-static inline uint64_t engine__left_holding(rt_slice l1, uint64_t l2, uint64_t l3);
+static RT_SHORT uint64_t engine__left_holding(rt_slice l1, uint64_t l2, uint64_t l3);
 static RT_HERE struct layout__Numbers engine__turned(struct layout__Numbers l1, uint64_t l2);
 static inline struct core__result__Result__Effect_Refusal execute__perform(rt_slice l1, rt_slice l2, rt_slice l3, uint64_t l4, uint64_t l5, uint64_t l6);
 static inline struct core__result__Result__Effect_Refusal execute_construct__construct(rt_slice l1, rt_slice l2, rt_slice l3, struct execute_stack__Actor l4, uint64_t l5, uint64_t l6);
 static inline struct core__result__Result__Effect_Refusal execute_operator__operate(rt_slice l1, rt_slice l2, struct execute_stack__Actor l3, uint8_t l4);
-static inline uint8_t execute_operator__result_byte(uint8_t l1, uint8_t l2);
+static RT_SHORT uint8_t execute_operator__result_byte(uint8_t l1, uint8_t l2);
 static inline struct execute_stack__Effect execute_stack__branch(rt_slice l1, rt_slice l2, struct execute_stack__Actor l3, uint64_t l4);
 static inline struct execute_stack__Effect execute_stack__negate(rt_slice l1, rt_slice l2, struct execute_stack__Actor l3);
-static inline struct execute_stack__Effect execute_stack__push(rt_slice l1, rt_slice l2, struct execute_stack__Actor l3, uint64_t l4);
+static RT_SHORT struct execute_stack__Effect execute_stack__push(rt_slice l1, rt_slice l2, struct execute_stack__Actor l3, uint64_t l4);
 static inline struct execute_stack__Effect execute_stack__push_this(rt_slice l1, rt_slice l2, struct execute_stack__Actor l3);
-static inline void execute_stack__put(rt_slice l1, rt_slice l2, uint64_t l3, uint64_t l4, uint64_t l5, uint64_t l6);
+static RT_SHORT void execute_stack__put(rt_slice l1, rt_slice l2, uint64_t l3, uint64_t l4, uint64_t l5, uint64_t l6);
 static inline struct execute_stack__Effect execute_variables__read(rt_slice l1, rt_slice l2, struct execute_stack__Actor l3, uint64_t l4);
-static inline struct execute_stack__Effect execute_variables__replace(rt_slice l1, uint64_t l2, uint64_t l3);
+static RT_SHORT struct execute_stack__Effect execute_variables__replace(rt_slice l1, uint64_t l2, uint64_t l3);
 static inline struct execute_stack__Effect execute_variables__write(rt_slice l1, rt_slice l2, rt_slice l3, struct execute_stack__Actor l4, uint64_t l5);
 static inline uint64_t holders__holder(rt_slice l1, uint64_t l2, uint64_t l3, uint64_t l4);
-static inline uint64_t holders__holder_of(struct rt_array_holders__Record_256 l1, uint64_t l2, uint64_t l3, uint64_t l4);
+static RT_SHORT uint64_t holders__holder_of(struct rt_array_holders__Record_256 l1, uint64_t l2, uint64_t l3, uint64_t l4);
 static RT_HERE struct rt_array_holders__Record_256 holders__records(rt_slice l1, uint64_t l2);
 static RT_HERE struct engine__Machine interpreter__moving__settle(struct engine__Machine l1, rt_slice l2, rt_slice l3, rt_slice l4);
 static RT_HERE struct interpreter__turns__Going interpreter__turns__going_at(struct engine__Machine l1, uint64_t l2, struct holders__Record l3, rt_slice l4);
@@ -1363,68 +1368,68 @@ static RT_HERE struct interpreter__turns__Going interpreter__turns__resting(stru
 static RT_HERE struct interpreter__turns__Ran interpreter__turns__run(struct engine__Machine l1, uint8_t *l2, rt_slice l3, rt_slice l4, rt_slice l5);
 static RT_HERE struct interpreter__turns__Going interpreter__turns__take_turns(struct interpreter__turns__Going l1, struct rt_array_holders__Record_256 l2, rt_slice l3, rt_slice l4, rt_slice l5, rt_slice l6, rt_slice l7);
 static RT_HERE struct interpreter__turns__Going interpreter__turns__turn(struct interpreter__turns__Going l1, uint64_t l2, rt_slice l3, rt_slice l4, rt_slice l5, rt_slice l6, rt_slice l7);
-static inline uint8_t judging__digits__digit(uint64_t l1, uint8_t l2);
-static inline uint64_t judging__digits__mark(uint64_t l1, uint8_t l2, uint8_t l3);
-static inline uint64_t judging__digits__power(uint8_t l1);
-static inline struct judge__Facts judging__expression__appended(uint8_t l1, uint8_t l2, struct judge__Facts l3, struct judge__Facts l4);
-static inline struct judge__Facts judging__expression__combined(uint8_t l1, struct judge__Facts l2, struct judge__Facts l3);
-static inline struct judge__Facts judging__expression__constructed(uint8_t l1, struct judge__Facts l2);
-static inline uint8_t judging__expression__gives(uint8_t l1, uint8_t l2);
-static inline struct judge__Facts judging__expression__negated(struct judge__Facts l1);
-static inline struct judge__Facts judging__expression__no_args(void);
+static RT_SHORT uint8_t judging__digits__digit(uint64_t l1, uint8_t l2);
+static RT_SHORT uint64_t judging__digits__mark(uint64_t l1, uint8_t l2, uint8_t l3);
+static RT_SHORT uint64_t judging__digits__power(uint8_t l1);
+static RT_SHORT struct judge__Facts judging__expression__appended(uint8_t l1, uint8_t l2, struct judge__Facts l3, struct judge__Facts l4);
+static RT_SHORT struct judge__Facts judging__expression__combined(uint8_t l1, struct judge__Facts l2, struct judge__Facts l3);
+static RT_SHORT struct judge__Facts judging__expression__constructed(uint8_t l1, struct judge__Facts l2);
+static RT_SHORT uint8_t judging__expression__gives(uint8_t l1, uint8_t l2);
+static RT_SHORT struct judge__Facts judging__expression__negated(struct judge__Facts l1);
+static RT_SHORT struct judge__Facts judging__expression__no_args(void);
 static RT_HERE struct judge__Facts judging__expression__pushed(uint8_t l1);
 static inline uint8_t judging__expression__takes(uint8_t l1, uint8_t l2, uint8_t l3);
 static RT_HERE struct judge__Facts judging__expression__travelled(uint8_t l1, struct judge__Judged l2);
 static inline uint8_t judging__fault__demand(uint8_t l1, uint8_t l2);
-static inline uint8_t judging__fault__named(uint8_t l1);
-static inline uint8_t judging__fault__worst(uint8_t l1, uint8_t l2);
+static RT_SHORT uint8_t judging__fault__named(uint8_t l1);
+static RT_SHORT uint8_t judging__fault__worst(uint8_t l1, uint8_t l2);
 static inline struct judge__Judged judging__path__lead_by(rt_slice l1, rt_slice l2, struct judge__Judged l3, uint8_t l4);
-static inline struct judge__Judged judging__path__local(uint64_t l1, uint8_t l2);
-static inline uint8_t judging__path__look(rt_slice l1, uint64_t l2);
-static inline struct judge__Judged judging__path__param(rt_slice l1, rt_slice l2, uint8_t l3, uint8_t l4, uint8_t l5);
-static inline struct judge__Judged judging__path__start(rt_slice l1, rt_slice l2, uint8_t l3, uint64_t l4, uint8_t l5);
-static inline uint8_t judging__path__type_at(rt_slice l1, uint8_t l2, uint8_t l3);
-static inline struct judge__Done judging__statement__branched(struct judge__Scope l1, struct judge__Facts l2, struct judge__Done l3);
+static RT_SHORT struct judge__Judged judging__path__local(uint64_t l1, uint8_t l2);
+static RT_SHORT uint8_t judging__path__look(rt_slice l1, uint64_t l2);
+static RT_SHORT struct judge__Judged judging__path__param(rt_slice l1, rt_slice l2, uint8_t l3, uint8_t l4, uint8_t l5);
+static RT_SHORT struct judge__Judged judging__path__start(rt_slice l1, rt_slice l2, uint8_t l3, uint64_t l4, uint8_t l5);
+static RT_SHORT uint8_t judging__path__type_at(rt_slice l1, uint8_t l2, uint8_t l3);
+static RT_SHORT struct judge__Done judging__statement__branched(struct judge__Scope l1, struct judge__Facts l2, struct judge__Done l3);
 static RT_HERE struct judge__Done judging__statement__declared(struct judge__Scope l1, uint8_t l2, uint8_t l3, struct judge__Facts l4);
-static inline struct judge__Done judging__statement__followed(struct judge__Done l1, struct judge__Done l2);
-static inline struct judge__Done judging__statement__nothing(struct judge__Scope l1);
+static RT_SHORT struct judge__Done judging__statement__followed(struct judge__Done l1, struct judge__Done l2);
+static RT_SHORT struct judge__Done judging__statement__nothing(struct judge__Scope l1);
 static RT_HERE struct judge__Done judging__statement__updated(struct judge__Scope l1, uint8_t l2, struct judge__Judged l3, struct judge__Facts l4);
 static inline void layout__begin(rt_slice l1, uint64_t l2, uint16_t l3, uint16_t l4);
-static inline uint64_t layout__cell(uint8_t l1, uint64_t l2);
-static inline uint8_t layout__due(struct layout__Numbers l1);
+static RT_SHORT uint64_t layout__cell(uint8_t l1, uint64_t l2);
+static RT_SHORT uint8_t layout__due(struct layout__Numbers l1);
 static RT_HERE struct layout__Numbers layout__fresh(uint64_t l1);
 static inline void layout__go(rt_slice l1, uint64_t l2, uint64_t l3, uint64_t l4);
-static inline uint64_t layout__head(rt_slice l1, uint64_t l2, uint64_t l3);
-static inline uint8_t layout__holds(rt_slice l1, uint64_t l2);
-static inline uint64_t layout__operand(uint64_t l1);
+static RT_SHORT uint64_t layout__head(rt_slice l1, uint64_t l2, uint64_t l3);
+static RT_SHORT uint8_t layout__holds(rt_slice l1, uint64_t l2);
+static RT_SHORT uint64_t layout__operand(uint64_t l1);
 static inline void layout__seat(rt_slice l1, uint64_t l2, uint64_t l3);
-static inline uint8_t layout__type_byte(uint64_t l1);
-static inline struct core__option__Option__u8 lexer__alone(uint8_t l1);
-static inline uint8_t lexer__bytes__between(uint8_t l1, uint8_t l2, uint8_t l3);
-static inline uint8_t lexer__bytes__byte(rt_slice l1, uint64_t l2);
+static RT_SHORT uint8_t layout__type_byte(uint64_t l1);
+static RT_SHORT struct core__option__Option__u8 lexer__alone(uint8_t l1);
+static RT_SHORT uint8_t lexer__bytes__between(uint8_t l1, uint8_t l2, uint8_t l3);
+static RT_SHORT uint8_t lexer__bytes__byte(rt_slice l1, uint64_t l2);
 static RT_HERE struct core__option__Option__u64 lexer__bytes__close_place(rt_slice l1);
 static RT_HERE struct core__option__Option__u64 lexer__bytes__closing(rt_slice l1);
-static inline uint64_t lexer__bytes__digits(rt_slice l1);
+static RT_SHORT uint64_t lexer__bytes__digits(rt_slice l1);
 static RT_WITHIN uint8_t lexer__bytes__fn__digits__take_while(uint8_t *l1, uint8_t *l2);
 static RT_WITHIN uint8_t lexer__bytes__fn__digits__take_while_FnMut__call_mut(uint8_t *l1, uint8_t *l2);
 static RT_WITHIN uint8_t lexer__bytes__fn__names__take_while(uint8_t *l1, uint8_t *l2);
 static RT_WITHIN uint8_t lexer__bytes__fn__names__take_while_FnMut__call_mut(uint8_t *l1, uint8_t *l2);
 static inline uint8_t lexer__bytes__is_blank(uint8_t l1);
-static inline uint8_t lexer__bytes__is_digit(uint8_t l1);
-static inline uint8_t lexer__bytes__is_letter(uint8_t l1);
-static inline uint8_t lexer__bytes__is_name_byte(uint8_t l1);
-static inline uint64_t lexer__bytes__names(rt_slice l1);
-static inline uint8_t lexer__bytes__opens(uint8_t l1, uint8_t l2);
-static inline uint8_t lexer__bytes__signed(uint8_t l1, uint8_t l2);
+static RT_SHORT uint8_t lexer__bytes__is_digit(uint8_t l1);
+static RT_SHORT uint8_t lexer__bytes__is_letter(uint8_t l1);
+static RT_SHORT uint8_t lexer__bytes__is_name_byte(uint8_t l1);
+static RT_SHORT uint64_t lexer__bytes__names(rt_slice l1);
+static RT_SHORT uint8_t lexer__bytes__opens(uint8_t l1, uint8_t l2);
+static RT_SHORT uint8_t lexer__bytes__signed(uint8_t l1, uint8_t l2);
 static RT_WITHIN struct rt_tuple2__u8_u64 lexer__fn__followed__map(struct lexer__fn__followed__map_Self l1, uint8_t l2);
 static RT_WITHIN struct rt_tuple2__u8_u64 lexer__fn__followed__map_FnOnce__call_once(struct lexer__fn__followed__map_Self l1, uint8_t l2);
 static RT_HERE struct core__option__Option__rt_tuple2_u8_u64 lexer__followed(uint8_t l1, uint8_t l2, uint8_t l3, struct core__option__Option__u8 l4);
 static inline uint64_t lexer__gaps__back_within(rt_slice l1, uint64_t l2, uint64_t l3);
 static inline uint64_t lexer__gaps__beyond(rt_slice l1, uint64_t l2);
-static inline uint8_t lexer__gaps__eight(rt_slice l1, uint64_t l2);
+static RT_SHORT uint8_t lexer__gaps__eight(rt_slice l1, uint64_t l2);
 static inline uint64_t lexer__gaps__eights(rt_slice l1, uint64_t l2);
 static inline uint64_t lexer__gaps__eights_back(rt_slice l1, uint64_t l2);
-static inline uint64_t lexer__gaps__first(rt_slice l1);
+static RT_SHORT uint64_t lexer__gaps__first(rt_slice l1);
 static inline uint8_t lexer__gaps__four(rt_slice l1, uint64_t l2);
 static inline uint64_t lexer__gaps__next(rt_slice l1, uint64_t l2);
 static inline uint64_t lexer__gaps__start(rt_slice l1, uint64_t l2);
@@ -1436,12 +1441,12 @@ static RT_HERE struct core__option__Option__rt_tuple2_u8_u64 lexer__other(uint8_
 static RT_HERE struct core__option__Option__rt_tuple2_u8_u64 lexer__sign(uint8_t l1, uint8_t l2);
 static RT_HERE struct core__option__Option__rt_tuple2_u8_u64 lexer__token(rt_slice l1);
 static inline uint8_t lexer__words__kind(rt_slice l1);
-static inline uint8_t lexer__words__only(rt_slice l1, uint8_t l2, rt_slice l3);
-static inline uint8_t lexer__words__same(rt_slice l1, rt_slice l2);
+static RT_SHORT uint8_t lexer__words__only(rt_slice l1, uint8_t l2, rt_slice l3);
+static RT_SHORT uint8_t lexer__words__same(rt_slice l1, rt_slice l2);
 static inline uint8_t lexer__words__with_t(rt_slice l1);
 static RT_APART uint64_t listing__image__listing(rt_slice l1, rt_slice l2);
-static inline uint64_t little_endian__index(uint8_t l1);
-static inline uint64_t little_endian__pair_at(rt_slice l1, uint64_t l2);
+static RT_SHORT uint64_t little_endian__index(uint8_t l1);
+static RT_SHORT uint64_t little_endian__pair_at(rt_slice l1, uint64_t l2);
 static inline void little_endian__put_pair(rt_slice l1, uint64_t l2, uint64_t l3);
 static inline void little_endian__put_word(rt_slice l1, uint64_t l2, uint64_t l3);
 static inline uint64_t little_endian__word_at(rt_slice l1, uint64_t l2);
@@ -1461,10 +1466,10 @@ static RT_HERE struct core__result__Result__rt_tuple3_u64_u8_Judged_Refusal read
 static RT_HERE struct core__result__Result__rt_tuple3_u64_u8_Judged_Refusal read_exprs__path__follow(rt_slice l1, uint8_t *l2, struct judge__Judged l3, uint8_t l4, uint8_t l5, uint64_t l6);
 static RT_HERE struct core__result__Result__rt_tuple3_u64_u8_Judged_Refusal read_exprs__path__path(rt_slice l1, uint8_t *l2, uint64_t l3, uint64_t l4);
 static RT_HERE struct core__result__Result__rt_tuple2_u8_u64_Refusal read_exprs__read__byte(rt_slice l1, uint64_t l2);
-static inline uint8_t read_exprs__read__is_type(uint64_t l1, uint8_t l2);
+static RT_SHORT uint8_t read_exprs__read__is_type(uint64_t l1, uint8_t l2);
 static inline struct core__result__Result__rt_tuple2_u8_u64_Refusal read_exprs__read__ranged(rt_slice l1, uint64_t l2, uint64_t l3, uint64_t l4);
 static RT_HERE struct core__result__Result__rt_tuple2_u8_u64_Refusal read_exprs__read__type_byte(rt_slice l1, uint64_t l2, uint64_t l3);
-static inline void read_params__clear(rt_slice l1, uint64_t l2, uint64_t l3);
+static RT_SHORT void read_params__clear(rt_slice l1, uint64_t l2, uint64_t l3);
 static RT_HERE struct core__result__Result__u64_Refusal read_params__list(rt_slice l1, rt_slice l2, rt_slice l3, uint64_t l4, uint64_t l5, uint64_t l6);
 static RT_HERE struct core__result__Result__u64_Refusal read_params__lists(rt_slice l1, rt_slice l2, rt_slice l3, uint64_t l4, uint64_t l5);
 static RT_HERE struct core__result__Result__rt_tuple2_u64_u8_Refusal read_params__params(rt_slice l1, rt_slice l2, rt_slice l3);
@@ -1487,7 +1492,7 @@ static inline struct core__result__Result__rt_tuple2_u64_Planned_Refusal read_sc
 static inline uint8_t read_schedule__had(uint8_t *l1, uint8_t l2);
 static inline struct core__result__Result__rt_tuple2_u64_Planned_Refusal read_schedule__item(rt_slice l1, uint8_t *l2, uint64_t l3, uint64_t l4);
 static inline struct core__result__Result__rt_tuple2_u64_Planned_Refusal read_schedule__items(rt_slice l1, uint8_t *l2, uint64_t l3, uint64_t l4);
-static inline struct read_schedule__Planned read_schedule__joined(struct read_schedule__Planned l1, struct read_schedule__Planned l2);
+static RT_SHORT struct read_schedule__Planned read_schedule__joined(struct read_schedule__Planned l1, struct read_schedule__Planned l2);
 static RT_HERE struct read_schedule__Planned read_schedule__one(uint8_t l1);
 static RT_HERE struct core__result__Result__rt_tuple2_u64_Done_Refusal read_stmts__simple__create(rt_slice l1, uint8_t *l2, struct judge__Scope l3, uint64_t l4);
 static RT_HERE struct core__result__Result__rt_tuple2_u64_Done_Refusal read_stmts__simple__declare(rt_slice l1, uint8_t *l2, struct judge__Scope l3, uint64_t l4);
@@ -1498,40 +1503,40 @@ static RT_HERE struct core__result__Result__rt_tuple2_u64_Done_Refusal read_stmt
 static inline struct core__result__Result__rt_tuple2_u64_Done_Refusal read_stmts__stmt__body(rt_slice l1, uint8_t *l2, struct judge__Scope l3, uint64_t l4, uint64_t l5);
 static inline struct core__result__Result__rt_tuple2_u64_Done_Refusal read_stmts__stmt__stmt(rt_slice l1, uint8_t *l2, struct judge__Scope l3, uint64_t l4, uint64_t l5);
 static inline struct core__result__Result__rt_tuple2_u64_Done_Refusal read_stmts__stmt__when(rt_slice l1, uint8_t *l2, struct judge__Scope l3, uint64_t l4, uint64_t l5);
-static inline struct read_text__Answer read_text__answered(struct core__result__Result__u32_Refusal l1);
+static RT_SHORT struct read_text__Answer read_text__answered(struct core__result__Result__u32_Refusal l1);
 static RT_HERE struct core__option__Option__u64 read_text__composed(rt_slice l1, rt_slice l2, rt_slice l3, rt_slice l4, rt_slice l5, rt_slice l6);
 static inline struct core__result__Result__u32_Refusal read_text__imaged(rt_slice l1, rt_slice l2);
 static RT_APART struct core__result__Result__u32_Refusal read_text__meant(rt_slice l1, rt_slice l2, rt_slice l3, rt_slice l4);
 static inline struct core__result__Result__u32_Refusal read_text__passes(rt_slice l1, rt_slice l2, rt_slice l3, rt_slice l4);
 static RT_APART struct read_text__Answer read_text__read(rt_slice l1, rt_slice l2);
 static RT_WITHIN uint8_t resolve__declarations__between_all__unit(rt_slice l1);
-static inline uint8_t resolve__declarations__few(uint64_t l1, uint64_t l2);
+static RT_SHORT uint8_t resolve__declarations__few(uint64_t l1, uint64_t l2);
 static RT_WITHIN uint8_t resolve__declarations__fn__rows_ok__between_all(uint8_t *l1, uint64_t l2, uint64_t l3);
 static RT_WITHIN uint8_t resolve__declarations__fn__rows_ok__between_all_Fn__call(uint8_t *l1, uint64_t l2, uint64_t l3);
-static inline uint8_t resolve__declarations__is_new(rt_slice l1, rt_slice l2, uint64_t l3, uint64_t l4);
-static inline uint8_t resolve__declarations__narrow(rt_slice l1);
+static RT_SHORT uint8_t resolve__declarations__is_new(rt_slice l1, rt_slice l2, uint64_t l3, uint64_t l4);
+static RT_SHORT uint8_t resolve__declarations__narrow(rt_slice l1);
 static inline uint8_t resolve__declarations__row_ok(rt_slice l1, rt_slice l2, uint64_t l3, uint64_t l4);
-static inline uint8_t resolve__declarations__rows_ok(rt_slice l1, rt_slice l2, rt_slice l3);
+static RT_SHORT uint8_t resolve__declarations__rows_ok(rt_slice l1, rt_slice l2, rt_slice l3);
 static inline uint64_t resolve__declarations__step_names(rt_slice l1, rt_slice l2, rt_slice l3);
-static inline uint64_t resolve__declarations__type_byte(rt_slice l1, rt_slice l2, uint8_t l3, uint64_t l4);
-static inline uint8_t resolve__declarations__type_kind(uint8_t l1);
+static RT_SHORT uint64_t resolve__declarations__type_byte(rt_slice l1, rt_slice l2, uint8_t l3, uint64_t l4);
+static RT_SHORT uint8_t resolve__declarations__type_kind(uint8_t l1);
 static inline uint8_t resolve__declarations__types(rt_slice l1, rt_slice l2, rt_slice l3, rt_slice l4, rt_slice l5);
-static inline uint64_t resolve__literals__digit_value(uint8_t l1);
-static inline struct core__option__Option__u32 resolve__literals__int_word(rt_slice l1, uint64_t l2);
-static inline uint64_t resolve__literals__longer(uint64_t l1, uint8_t l2);
-static inline struct core__option__Option__u32 resolve__literals__nat_word(rt_slice l1, uint64_t l2);
+static RT_SHORT uint64_t resolve__literals__digit_value(uint8_t l1);
+static RT_SHORT struct core__option__Option__u32 resolve__literals__int_word(rt_slice l1, uint64_t l2);
+static RT_SHORT uint64_t resolve__literals__longer(uint64_t l1, uint8_t l2);
+static RT_SHORT struct core__option__Option__u32 resolve__literals__nat_word(rt_slice l1, uint64_t l2);
 static inline struct core__option__Option__u32 resolve__literals__signed(uint8_t l1, uint64_t l2);
 static inline uint64_t resolve__literals__value(rt_slice l1, uint64_t l2);
 static RT_WITHIN uint8_t resolve__names__fn__lookup__position(uint8_t *l1, uint8_t *l2);
 static RT_WITHIN uint8_t resolve__names__fn__lookup__position_FnMut__call_mut(uint8_t *l1, uint8_t *l2);
-static inline uint8_t resolve__names__letter(rt_slice l1, uint64_t l2);
+static RT_SHORT uint8_t resolve__names__letter(rt_slice l1, uint64_t l2);
 static RT_HERE struct core__option__Option__u64 resolve__names__lookup(rt_slice l1, rt_slice l2, uint64_t l3);
 static inline uint8_t resolve__names__same_name(rt_slice l1, uint64_t l2, uint64_t l3);
 static RT_WITHIN uint8_t resolve__resolve__declarations__few_Fn__call(uint8_t *l1, uint64_t l2, uint64_t l3);
-static inline uint64_t resolve__tables__add(rt_slice l1, uint64_t l2, uint64_t l3, uint8_t l4);
-static inline uint64_t resolve__tables__counted(uint64_t l1, uint8_t l2);
+static RT_SHORT uint64_t resolve__tables__add(rt_slice l1, uint64_t l2, uint64_t l3, uint8_t l4);
+static RT_SHORT uint64_t resolve__tables__counted(uint64_t l1, uint8_t l2);
 static inline uint8_t resolve__tables__distinct(rt_slice l1, rt_slice l2);
-static inline void resolve__tables__put(rt_slice l1, uint64_t l2, uint64_t l3);
+static RT_SHORT void resolve__tables__put(rt_slice l1, uint64_t l2, uint64_t l3);
 static RT_WITHIN uint8_t resolve__declarations__between_all__between_all_Self_s_50cd00d0(rt_slice l1, struct resolve__declarations__fn__rows_ok__between_all_Self___17487529 l2);
 static RT_APART struct core__result__Result__run_images_Report_Refusal run_images__begun(uint8_t *l1, rt_slice l2, rt_slice l3, rt_slice l4, rt_slice l5, rt_slice l6, rt_slice l7);
 static RT_HERE struct run_images__Report run_images__refused(uint8_t l1);
@@ -1539,10 +1544,10 @@ static RT_HERE struct run_images__Report run_images__reported(rt_slice l1, rt_sl
 static inline struct core__result__Result__unit_Refusal run_images__room(uint64_t l1, uint64_t l2, uint64_t l3);
 static RT_APART struct run_images__Report run_images__run(rt_slice l1, rt_slice l2, rt_slice l3, rt_slice l4, rt_slice l5);
 static RT_HERE struct run_images__Report run_images__settled(struct core__result__Result__run_images_Report_Refusal l1);
-static inline void scheduler__begin__begin_all(rt_slice l1, rt_slice l2, uint64_t l3, uint64_t l4);
+static RT_SHORT void scheduler__begin__begin_all(rt_slice l1, rt_slice l2, uint64_t l3, uint64_t l4);
 static inline void scheduler__begin__begin_one(rt_slice l1, rt_slice l2, uint64_t l3, uint64_t l4);
-static inline uint8_t scheduler__begin__means(uint64_t l1, uint64_t l2);
-static inline uint64_t scheduler__count__holding(rt_slice l1, uint64_t l2);
+static RT_SHORT uint8_t scheduler__begin__means(uint64_t l1, uint64_t l2);
+static RT_SHORT uint64_t scheduler__count__holding(rt_slice l1, uint64_t l2);
 static RT_HERE struct layout__Numbers scheduler__schedule__advance(struct layout__Numbers l1, rt_slice l2, rt_slice l3, rt_slice l4);
 static RT_HERE struct layout__Numbers scheduler__schedule__fix(struct layout__Numbers l1);
 static RT_HERE struct layout__Numbers scheduler__schedule__round(uint64_t l1, struct layout__Numbers l2);
@@ -1563,12 +1568,12 @@ static RT_HERE struct step_part__Spot step_part__spotted(struct core__option__Op
 static RT_HERE struct step_part__Spot step_part__step_place(rt_slice l1, rt_slice l2, uint8_t l3, uint8_t l4);
 static RT_HERE struct core__result__Result__u64_Refusal table_read__behind(rt_slice l1, struct table_read__parameters__Parameters l2, uint64_t l3, rt_slice l4, rt_slice l5);
 static inline void table_read__nulls__defaults(rt_slice l1, uint64_t l2, uint64_t l3, rt_slice l4, uint64_t l5);
-static inline uint64_t table_read__nulls__null_cell(uint8_t l1);
+static RT_SHORT uint64_t table_read__nulls__null_cell(uint8_t l1);
 static inline void table_read__nulls__nulls(struct table_read__parameters__Parameters l1, rt_slice l2, rt_slice l3);
 static RT_HERE struct table_read__parameters__Parameters table_read__parameters__Parameters__new(rt_slice l1, rt_slice l2);
 static RT_HERE struct core__result__Result__u64_Refusal table_read__read(rt_slice l1, struct table_read__parameters__Parameters l2, rt_slice l3, rt_slice l4);
 static RT_HERE struct core__result__Result__u64_Refusal table_read__read_image(rt_slice l1, struct table_read__parameters__Parameters l2, rt_slice l3, rt_slice l4, rt_slice l5);
-static inline uint8_t table_read__reading__allowed(uint8_t l1, uint64_t l2);
+static RT_SHORT uint8_t table_read__reading__allowed(uint8_t l1, uint64_t l2);
 static RT_HERE struct core__result__Result__u64_Refusal table_read__reading__count(rt_slice l1, uint64_t l2);
 static RT_HERE struct core__result__Result__u64_Refusal table_read__reading__one_record(rt_slice l1, struct table_read__parameters__Parameters l2, uint64_t l3, rt_slice l4, rt_slice l5, uint64_t l6);
 static RT_HERE struct core__result__Result__u64_Refusal table_read__reading__records(rt_slice l1, struct table_read__parameters__Parameters l2, uint64_t l3, uint64_t l4, rt_slice l5, rt_slice l6);
@@ -1579,19 +1584,19 @@ static inline uint8_t table_read__refer__row_refers(rt_slice l1, uint64_t l2, rt
 static inline uint8_t table_read__refer__rows_refer(struct table_read__parameters__Parameters l1, rt_slice l2, rt_slice l3, uint64_t l4, uint64_t l5);
 static inline uint64_t table_write__write(rt_slice l1, rt_slice l2, rt_slice l3, uint64_t l4, rt_slice l5, rt_slice l6);
 static inline uint64_t table_write__writing__instances(rt_slice l1, uint64_t l2, rt_slice l3, rt_slice l4, rt_slice l5, uint64_t l6, uint64_t l7);
-static inline uint64_t table_write__writing__stream(rt_slice l1, rt_slice l2, rt_slice l3, uint64_t l4, rt_slice l5);
+static RT_SHORT uint64_t table_write__writing__stream(rt_slice l1, rt_slice l2, rt_slice l3, uint64_t l4, rt_slice l5);
 static inline void table_write__writing__values(rt_slice l1, uint64_t l2, rt_slice l3, uint64_t l4, uint64_t l5);
-static inline uint64_t text__byte(rt_slice l1, uint64_t l2, uint8_t l3);
+static RT_SHORT uint64_t text__byte(rt_slice l1, uint64_t l2, uint8_t l3);
 static inline uint64_t text__command(rt_slice l1, uint64_t l2, uint64_t l3);
-static inline uint64_t text__decimal(rt_slice l1, uint64_t l2, uint64_t l3);
-static inline uint64_t text__digit(rt_slice l1, uint64_t l2, uint64_t l3);
+static RT_SHORT uint64_t text__decimal(rt_slice l1, uint64_t l2, uint64_t l3);
+static RT_SHORT uint64_t text__digit(rt_slice l1, uint64_t l2, uint64_t l3);
 static inline uint64_t text__digits(rt_slice l1, uint64_t l2, uint64_t l3, uint64_t l4);
-static inline uint64_t text__keyed(rt_slice l1, uint64_t l2, rt_slice l3, uint64_t l4);
-static inline uint64_t text__lines__column(rt_slice l1, uint64_t l2, uint64_t l3);
+static RT_SHORT uint64_t text__keyed(rt_slice l1, uint64_t l2, rt_slice l3, uint64_t l4);
+static RT_SHORT uint64_t text__lines__column(rt_slice l1, uint64_t l2, uint64_t l3);
 static inline uint64_t text__lines__line(rt_slice l1, uint64_t l2, uint8_t l3, uint8_t l4, uint64_t l5, uint64_t l6);
 static inline uint64_t text__lines__row(rt_slice l1, uint64_t l2, rt_slice l3, rt_slice l4);
 static inline uint64_t text__push(rt_slice l1, uint64_t l2, uint64_t l3, uint64_t l4);
-static inline uint64_t text__put(rt_slice l1, uint64_t l2, rt_slice l3);
+static RT_SHORT uint64_t text__put(rt_slice l1, uint64_t l2, rt_slice l3);
 static inline uint64_t text__value(rt_slice l1, uint64_t l2, uint64_t l3, uint64_t l4);
 static RT_APART uint64_t text_place__place(rt_slice l1);
 static inline uint64_t text_place__stopped(rt_slice l1, rt_slice l2, rt_slice l3);
@@ -1601,7 +1606,7 @@ static RT_APART uint64_t text_place__unnamed(rt_slice l1, rt_slice l2, rt_slice 
 static RT_APART struct trace_images__Traced trace_images__begun(uint8_t *l1, rt_slice l2, rt_slice l3, rt_slice l4, rt_slice l5, uint64_t l6, rt_slice l7);
 static RT_HERE struct trace_images__pages__Page trace_images__pages__blank(uint64_t l1);
 static RT_HERE struct trace_images__Traced trace_images__pages__ended(struct trace_images__pages__Page l1, uint8_t l2, uint64_t l3, rt_slice l4);
-static inline uint64_t trace_images__pages__least(uint64_t l1, uint64_t l2);
+static RT_SHORT uint64_t trace_images__pages__least(uint64_t l1, uint64_t l2);
 static RT_HERE struct trace_images__pages__Page trace_images__pages__put(struct trace_images__pages__Page l1, rt_slice l2, rt_slice l3);
 static RT_HERE struct trace_images__Traced trace_images__pages__refused(uint8_t l1, uint64_t l2, rt_slice l3);
 static RT_APART struct core__result__Result__Seat_Refusal trace_images__seated(uint64_t l1, struct table_read__parameters__Parameters l2, rt_slice l3, rt_slice l4, rt_slice l5);
@@ -1616,26 +1621,26 @@ static RT_HERE struct trace_images__telling__Telling trace_images__telling__turn
 static RT_APART struct trace_images__Traced trace_images__trace(rt_slice l1, rt_slice l2, rt_slice l3, uint64_t l4, rt_slice l5);
 static RT_HERE struct trace_lines__Told trace_lines__advance(struct engine__Machine l1, uint64_t l2, rt_slice l3, rt_slice l4, rt_slice l5, rt_slice l6);
 static inline uint64_t trace_lines__back(rt_slice l1, uint64_t l2, uint64_t l3, struct core__option__Option__Write l4, struct layout__Numbers l5, rt_slice l6, rt_slice l7);
-static inline uint64_t trace_lines__choice__picked_of(rt_slice l1, uint64_t l2, uint64_t l3, uint64_t l4, uint8_t l5);
-static inline uint64_t trace_lines__columns(rt_slice l1, uint64_t l2, uint64_t l3, uint64_t l4, uint64_t l5);
+static RT_SHORT uint64_t trace_lines__choice__picked_of(rt_slice l1, uint64_t l2, uint64_t l3, uint64_t l4, uint8_t l5);
+static RT_SHORT uint64_t trace_lines__columns(rt_slice l1, uint64_t l2, uint64_t l3, uint64_t l4, uint64_t l5);
 static inline uint64_t trace_lines__front(rt_slice l1, struct trace_lines__Acting l2);
 static inline uint64_t trace_lines__moved(rt_slice l1, struct layout__Numbers l2);
 static inline uint64_t trace_lines__parts__cell(rt_slice l1, uint64_t l2, rt_slice l3, uint64_t l4);
 static inline uint64_t trace_lines__parts__entries(rt_slice l1, uint64_t l2, uint64_t l3, uint64_t l4);
 static inline uint64_t trace_lines__parts__stack(rt_slice l1, uint64_t l2, rt_slice l3, rt_slice l4, uint64_t l5);
 static inline uint64_t trace_lines__parts__tag(rt_slice l1, uint64_t l2);
-static inline uint64_t trace_lines__parts__worth(rt_slice l1, uint64_t l2, uint64_t l3);
+static RT_SHORT uint64_t trace_lines__parts__worth(rt_slice l1, uint64_t l2, uint64_t l3);
 static inline uint64_t trace_lines__position(rt_slice l1, rt_slice l2, uint64_t l3, uint64_t l4);
-static inline uint64_t trace_lines__step_at(uint64_t l1, uint64_t l2);
+static RT_SHORT uint64_t trace_lines__step_at(uint64_t l1, uint64_t l2);
 static RT_HERE struct trace_lines__Told trace_lines__turn(struct trace_lines__Coming l1, rt_slice l2, rt_slice l3, rt_slice l4, rt_slice l5, rt_slice l6, rt_slice l7);
 static inline uint64_t trace_lines__writes__place(rt_slice l1, uint64_t l2, uint64_t l3, uint64_t l4);
 static RT_HERE struct core__option__Option__Write trace_lines__writes__target(rt_slice l1, rt_slice l2, rt_slice l3, rt_slice l4, uint64_t l5);
 static inline uint64_t trace_lines__writes__written(rt_slice l1, uint64_t l2, struct core__option__Option__Write l3, rt_slice l4);
-static inline uint32_t types__default_word(uint8_t l1);
-static inline uint8_t types__is_reference(uint8_t l1);
-static inline uint8_t types__is_type(uint8_t l1, uint8_t l2);
+static RT_SHORT uint32_t types__default_word(uint8_t l1);
+static RT_SHORT uint8_t types__is_reference(uint8_t l1);
+static RT_SHORT uint8_t types__is_type(uint8_t l1, uint8_t l2);
 static RT_WITHIN uint8_t types__refusal__U8FromRefusal__from(struct types__refusal__Refusal l1);
-static inline uint8_t types__struct_of(uint8_t l1);
+static RT_SHORT uint8_t types__struct_of(uint8_t l1);
 static RT_WITHIN struct types__refusal__Refusal uses__RefusalFromNoProgram__from(struct uses__NoProgram l1);
 static RT_HERE struct core__option__Option__rt_tuple2_uses_Scope_Option_u8 uses__book__Book__begin(struct uses__book__Book l1, struct uses__Scope l2);
 static RT_HERE struct core__option__Option__rt_tuple2_u8_u64 uses__book__Book__called(struct uses__book__Book l1, uint64_t l2, uint8_t l3, uint64_t l4);
@@ -1645,14 +1650,14 @@ static RT_HERE struct core__option__Option__rt_tuple2_u8_u64 uses__book__Book__f
 static RT_HERE struct core__option__Option__rt_tuple2_u8_u64 uses__book__Book__later(struct uses__book__Book l1, uint64_t l2, uint64_t l3);
 static RT_HERE struct core__option__Option__rt_tuple2_u8_u64 uses__book__Book__listed(struct uses__book__Book l1, uint64_t l2, uint64_t l3, uint64_t l4, uint64_t l5);
 static RT_HERE struct core__option__Option__rt_tuple2_uses_Scope_Option_u8 uses__book__Book__made(struct uses__book__Book l1, rt_slice l2, uint64_t l3, struct uses__Scope l4);
-static inline uint8_t uses__book__Book__no_parameter(struct uses__book__Book l1, uint64_t l2, uint64_t l3);
+static RT_SHORT uint8_t uses__book__Book__no_parameter(struct uses__book__Book l1, uint64_t l2, uint64_t l3);
 static RT_HERE struct core__option__Option__rt_tuple2_u8_u64 uses__book__Book__parameter(struct uses__book__Book l1, uint64_t l2, uint64_t l3);
 static RT_HERE struct core__option__Option__rt_tuple2_uses_Scope_Option_u8 uses__book__Book__type_role(struct uses__book__Book l1, uint64_t l2, uint8_t l3, struct uses__Scope l4);
 static inline uint8_t uses__book__Book__unused(struct uses__book__Book l1, rt_slice l2, uint64_t l3, uint64_t l4, uint64_t l5);
 static RT_HERE struct core__option__Option__rt_tuple2_uses_Scope_Option_u8 uses__book__Book__use_at(struct uses__book__Book l1, rt_slice l2, rt_slice l3, uint64_t l4, uint8_t l5, struct uses__Scope l6);
 static RT_HERE struct core__option__Option__rt_tuple2_uses_Scope_Option_u8 uses__book__Book__used_name(struct uses__book__Book l1, rt_slice l2, rt_slice l3, uint64_t l4, uint8_t l5, struct uses__Scope l6);
 static RT_HERE struct core__result__Result__u64_NoProgram uses__book__Book__uses(struct uses__book__Book l1, rt_slice l2, rt_slice l3, rt_slice l4, rt_slice l5);
-static inline uint8_t uses__declared__Declarations__few_steps(struct uses__declared__Declarations l1, uint64_t l2);
+static RT_SHORT uint8_t uses__declared__Declarations__few_steps(struct uses__declared__Declarations l1, uint64_t l2);
 static inline uint8_t uses__declared__Declarations__filled(struct uses__declared__Declarations l1, rt_slice l2);
 static inline uint64_t uses__declared__Declarations__gather(struct uses__declared__Declarations l1, uint8_t l2, uint8_t l3, rt_slice l4);
 static inline void uses__declared__Declarations__lay(struct uses__declared__Declarations l1, rt_slice l2);
@@ -1661,7 +1666,7 @@ static inline void uses__declared__Declarations__rows(struct uses__declared__Dec
 static inline uint64_t uses__declared__Declarations__step_names(struct uses__declared__Declarations l1, rt_slice l2);
 static inline uint8_t uses__declared__Declarations__well(struct uses__declared__Declarations l1, rt_slice l2);
 static inline uint64_t uses__declared__all(rt_slice l1, rt_slice l2);
-static inline uint8_t uses__declared__declares(uint8_t l1);
+static RT_SHORT uint8_t uses__declared__declares(uint8_t l1);
 static RT_HERE struct core__option__Option__rt_tuple2_u8_u64 uses__looked__local(rt_slice l1, rt_slice l2, uint64_t l3, uint64_t l4);
 static RT_HERE struct core__result__Result__u64_NoProgram uses__numbers(rt_slice l1, rt_slice l2, rt_slice l3, rt_slice l4, rt_slice l5);
 static RT_HERE struct core__option__Option__rt_tuple2_uses_Scope_Option_u8 uses__parts__close(rt_slice l1, uint8_t l2, struct uses__Scope l3);
@@ -1676,7 +1681,7 @@ static RT_HERE struct core__option__Option__rt_tuple2_uses_Scope_Option_u8 uses_
 static inline uint8_t uses__pass__quiet(uint8_t l1);
 static RT_HERE struct core__option__Option__rt_tuple2_uses_Scope_Option_u8 uses__passing__left(struct uses__Scope l1, struct core__option__Option__rt_tuple2_u8_u64 l2);
 static inline void uses__passing__store(rt_slice l1, uint64_t l2, uint64_t l3, uint64_t l4, uint64_t l5);
-static inline uint8_t uses__passing__type_number(uint8_t l1);
+static RT_SHORT uint8_t uses__passing__type_number(uint8_t l1);
 static inline uint8_t uses__tabling__fill(rt_slice l1, rt_slice l2, rt_slice l3);
 
 static inline struct core__result__Result__u32_OperatorError arithmetic__apply_bool(struct operators__Operator l1, uint8_t l2, uint8_t l3)
@@ -1833,7 +1838,7 @@ static inline struct core__result__Result__u32_OperatorError arithmetic__apply_i
     return l0;
 }
 
-static inline struct core__result__Result__u32_OperatorError arithmetic__apply_label(struct operators__Operator l1, uint32_t l2, uint32_t l3)
+static RT_SHORT struct core__result__Result__u32_OperatorError arithmetic__apply_label(struct operators__Operator l1, uint32_t l2, uint32_t l3)
 {
     struct core__result__Result__u32_OperatorError l0;
     struct core__option__Option__bool l4;
@@ -1955,7 +1960,7 @@ static inline struct core__result__Result__u32_OperatorError arithmetic__apply_n
     return l0;
 }
 
-static inline struct core__result__Result__u32_OperatorError arithmetic__apply_word(uint8_t l1, uint8_t l2, uint32_t l3, uint32_t l4)
+static RT_SHORT struct core__result__Result__u32_OperatorError arithmetic__apply_word(uint8_t l1, uint8_t l2, uint32_t l3, uint32_t l4)
 {
     struct core__result__Result__u32_OperatorError l0;
     struct operators__Operator l5;
@@ -1987,7 +1992,7 @@ static inline struct core__result__Result__u32_OperatorError arithmetic__apply_w
     return l0;
 }
 
-static inline struct core__result__Result__u32_OperatorError arithmetic__int_answer(uint64_t l1)
+static RT_SHORT struct core__result__Result__u32_OperatorError arithmetic__int_answer(uint64_t l1)
 {
     struct core__result__Result__u32_OperatorError l0;
     struct core__result__Result__u32_TryFromIntError l3;
@@ -2012,7 +2017,7 @@ static inline struct core__result__Result__u32_OperatorError arithmetic__int_ans
     return l0;
 }
 
-static inline uint64_t arithmetic__int_of(uint32_t l1)
+static RT_SHORT uint64_t arithmetic__int_of(uint32_t l1)
 {
     uint64_t l0;
     uint32_t l2;
@@ -2078,7 +2083,7 @@ static RT_HERE struct core__result__Result__u64_OperatorError arithmetic__remain
     return l0;
 }
 
-static inline struct core__result__Result__u32_OperatorError arithmetic__truth(struct core__option__Option__bool l1)
+static RT_SHORT struct core__result__Result__u32_OperatorError arithmetic__truth(struct core__option__Option__bool l1)
 {
     struct core__result__Result__u32_OperatorError l0;
     struct core__result__Result__u32_OperatorError l3;
@@ -2341,7 +2346,7 @@ static RT_HERE struct audala__images__Copied audala__listings__audala_listing(rt
     return l0;
 }
 
-static inline struct audala__places__Stopped audala__places__audala_place(rt_slice l1)
+static RT_SHORT struct audala__places__Stopped audala__places__audala_place(rt_slice l1)
 {
     struct audala__places__Stopped l0;
     uint64_t l2;
@@ -2459,7 +2464,7 @@ static inline struct core__option__Option__Fault block__block_fault(rt_slice l1,
     return l0;
 }
 
-static inline uint8_t block__filled(rt_slice l1, uint8_t l2)
+static RT_SHORT uint8_t block__filled(rt_slice l1, uint8_t l2)
 {
     uint8_t l0;
     uint64_t l3;
@@ -2503,7 +2508,7 @@ static RT_WITHIN uint8_t block__fn__zeros__all_FnMut__call_mut(uint8_t *l1, uint
     return l0;
 }
 
-static inline uint8_t block__laid_out(rt_slice l1, uint64_t l2, uint8_t l3)
+static RT_SHORT uint8_t block__laid_out(rt_slice l1, uint64_t l2, uint8_t l3)
 {
     uint8_t l0;
     uint8_t l4;
@@ -2533,7 +2538,7 @@ static RT_HERE rt_slice block__payload(rt_slice l1, uint64_t l2)
     return l0;
 }
 
-static inline void block__put__copy(rt_slice l1, uint64_t l2, rt_slice l3)
+static RT_SHORT void block__put__copy(rt_slice l1, uint64_t l2, rt_slice l3)
 {
     uint64_t l6;
     uint8_t *l7;
@@ -2550,7 +2555,7 @@ static inline void block__put__copy(rt_slice l1, uint64_t l2, rt_slice l3)
     return;
 }
 
-static inline void block__put__zeros(rt_slice l1, uint64_t l2, uint64_t l3)
+static RT_SHORT void block__put__zeros(rt_slice l1, uint64_t l2, uint64_t l3)
 {
     uint64_t l5;
     uint8_t *l6;
@@ -2606,7 +2611,7 @@ end1:;
     return l0;
 }
 
-static inline uint8_t block__sums_right(rt_slice l1)
+static RT_SHORT uint8_t block__sums_right(rt_slice l1)
 {
     uint8_t l0;
     struct block__Both l2;
@@ -2628,7 +2633,7 @@ static inline uint8_t block__sums_right(rt_slice l1)
     return l0;
 }
 
-static inline uint8_t block__used_right(uint8_t l1, uint64_t l2)
+static RT_SHORT uint8_t block__used_right(uint8_t l1, uint64_t l2)
 {
     uint8_t l0;
     uint8_t l4;
@@ -2723,7 +2728,7 @@ static inline void block__writing__put_front(rt_slice l1, uint64_t l2, uint64_t 
     return;
 }
 
-static inline uint8_t block__zeros(rt_slice l1)
+static RT_SHORT uint8_t block__zeros(rt_slice l1)
 {
     uint8_t l0;
     struct core__iter__slices__Iter__u8 l2;
@@ -2738,7 +2743,7 @@ static inline uint8_t block__zeros(rt_slice l1)
     return l0;
 }
 
-static inline struct core__option__Option__Fault blocks__image_fault(rt_slice l1, uint64_t l2)
+static RT_SHORT struct core__option__Option__Fault blocks__image_fault(rt_slice l1, uint64_t l2)
 {
     struct core__option__Option__Fault l0;
     uint8_t l3;
@@ -2800,7 +2805,7 @@ static RT_HERE struct core__result__Result__u64_Fault blocks__open_image(rt_slic
     return l0;
 }
 
-static inline struct types__refusal__Refusal blocks__program_number(struct block__Fault l1)
+static RT_SHORT struct types__refusal__Refusal blocks__program_number(struct block__Fault l1)
 {
     struct types__refusal__Refusal l0;
     struct types__refusal__Refusal l2;
@@ -2957,7 +2962,7 @@ end1:;
     return;
 }
 
-static inline uint8_t blocks__reading__length_right(uint64_t l1, uint64_t l2)
+static RT_SHORT uint8_t blocks__reading__length_right(uint64_t l1, uint64_t l2)
 {
     uint8_t l0;
     uint8_t l3;
@@ -2980,14 +2985,14 @@ static inline uint8_t blocks__reading__length_right(uint64_t l1, uint64_t l2)
     return l0;
 }
 
-static inline uint64_t blocks__reading__most(uint64_t l1)
+static RT_SHORT uint64_t blocks__reading__most(uint64_t l1)
 {
     uint64_t l0;
     l0 = core__int__usize__min(l1, UINT64_C(65536));
     return l0;
 }
 
-static inline uint64_t blocks__reading__stream_length(rt_slice l1, uint64_t l2)
+static RT_SHORT uint64_t blocks__reading__stream_length(rt_slice l1, uint64_t l2)
 {
     uint64_t l0;
     uint64_t l3;
@@ -3004,7 +3009,7 @@ static inline uint64_t blocks__reading__stream_length(rt_slice l1, uint64_t l2)
     return l0;
 }
 
-static inline struct types__refusal__Refusal blocks__table_number(struct block__Fault l1)
+static RT_SHORT struct types__refusal__Refusal blocks__table_number(struct block__Fault l1)
 {
     struct types__refusal__Refusal l0;
     struct types__refusal__Refusal l2;
@@ -3120,7 +3125,7 @@ end1:;
     return;
 }
 
-static inline uint8_t blocks__writing__stream_right(uint64_t l1, uint64_t l2)
+static RT_SHORT uint8_t blocks__writing__stream_right(uint64_t l1, uint64_t l2)
 {
     uint8_t l0;
     uint8_t l3;
@@ -3136,7 +3141,7 @@ static inline uint8_t blocks__writing__stream_right(uint64_t l1, uint64_t l2)
     return l0;
 }
 
-static inline struct checker__Verdict checker__accepted(struct load__Loaded l1)
+static RT_SHORT struct checker__Verdict checker__accepted(struct load__Loaded l1)
 {
     struct checker__Verdict l0;
     l0.f0 = UINT8_C(0);
@@ -3220,7 +3225,7 @@ static RT_APART struct checker__Verdict checker__check(rt_slice l1, rt_slice l2)
     return l0;
 }
 
-static inline struct checker__Verdict checker__refused(uint8_t l1)
+static RT_SHORT struct checker__Verdict checker__refused(uint8_t l1)
 {
     struct checker__Verdict l0;
     l0.f0 = l1;
@@ -3313,7 +3318,7 @@ static RT_WITHIN uint64_t commands__kind__U64FromKind__from(struct commands__kin
     return l0;
 }
 
-static inline struct emit__Put compile__items__add(rt_slice l1, struct emit__Put l2, uint64_t l3)
+static RT_SHORT struct emit__Put compile__items__add(rt_slice l1, struct emit__Put l2, uint64_t l3)
 {
     struct emit__Put l0;
     uint64_t l5;
@@ -3477,7 +3482,7 @@ static RT_HERE struct emit__Put compile__items__schedule(rt_slice l1, uint64_t l
     return l0;
 }
 
-static inline void compile__program(rt_slice l1, uint64_t l2, uint64_t l3, rt_slice l4, uint64_t l5, rt_slice l6, rt_slice l7)
+static RT_SHORT void compile__program(rt_slice l1, uint64_t l2, uint64_t l3, rt_slice l4, uint64_t l5, rt_slice l6, rt_slice l7)
 {
     uint8_t *l9;
     rt_slice l10;
@@ -3521,7 +3526,7 @@ end1:;
     return;
 }
 
-static inline void compile__spans__note(rt_slice l1, uint64_t l2, rt_slice l3)
+static RT_SHORT void compile__spans__note(rt_slice l1, uint64_t l2, rt_slice l3)
 {
     uint64_t l4;
     uint8_t l5;
@@ -3546,7 +3551,7 @@ end1:;
     return;
 }
 
-static inline void compile__spans__note_row(rt_slice l1, struct directory__Row l2)
+static RT_SHORT void compile__spans__note_row(rt_slice l1, struct directory__Row l2)
 {
     uint64_t l3;
     uint64_t l4;
@@ -3569,7 +3574,7 @@ static inline void compile__spans__note_row(rt_slice l1, struct directory__Row l
     return;
 }
 
-static inline void compile__spans__of_rows(rt_slice l1, uint64_t l2, uint64_t l3, rt_slice l4)
+static RT_SHORT void compile__spans__of_rows(rt_slice l1, uint64_t l2, uint64_t l3, rt_slice l4)
 {
     uint8_t *l6;
     rt_slice l7;
@@ -3586,7 +3591,7 @@ static inline void compile__spans__of_rows(rt_slice l1, uint64_t l2, uint64_t l3
     return;
 }
 
-static inline void compile__spans__pair(rt_slice l1, uint64_t l2, uint16_t l3, uint16_t l4)
+static RT_SHORT void compile__spans__pair(rt_slice l1, uint64_t l2, uint16_t l3, uint16_t l4)
 {
     uint64_t l5;
     uint8_t *l6;
@@ -3728,7 +3733,7 @@ static RT_HERE struct composing__Pen composing__bytes__lengthened(struct composi
     return l0;
 }
 
-static inline uint8_t composing__bytes__low(uint32_t l1)
+static RT_SHORT uint8_t composing__bytes__low(uint32_t l1)
 {
     uint8_t l0;
     uint32_t l2;
@@ -3975,7 +3980,7 @@ end1:;
     return l0;
 }
 
-static inline uint32_t composing__literal(rt_slice l1, uint64_t l2, uint8_t l3)
+static RT_SHORT uint32_t composing__literal(rt_slice l1, uint64_t l2, uint8_t l3)
 {
     uint32_t l0;
     uint8_t l4;
@@ -4241,7 +4246,7 @@ static RT_HERE struct composing__Pen composing__roles__put(rt_slice l1, rt_slice
     return l0;
 }
 
-static inline uint8_t composing__roomy(struct composing__Pen l1)
+static RT_SHORT uint8_t composing__roomy(struct composing__Pen l1)
 {
     uint8_t l0;
     uint8_t l2;
@@ -4313,7 +4318,7 @@ static RT_HERE struct core__option__Option__u64 composing__stream(rt_slice l1, r
     return l0;
 }
 
-static inline uint8_t composing__table__mark(uint64_t l1, uint64_t l2)
+static RT_SHORT uint8_t composing__table__mark(uint64_t l1, uint64_t l2)
 {
     uint8_t l0;
     uint64_t l3;
@@ -4703,12 +4708,12 @@ static RT_WITHIN void core__Destruct__none__drop__unit(void)
     return;
 }
 
-static inline void core__assertions__unreachable(void)
+static RT_SHORT void core__assertions__unreachable(void)
 {
     RT_NEVER;
 }
 
-static inline uint8_t core__char__bytes__is_ascii_alphabetic(uint8_t *l1)
+static RT_SHORT uint8_t core__char__bytes__is_ascii_alphabetic(uint8_t *l1)
 {
     uint8_t l0;
     uint8_t l2;
@@ -4719,7 +4724,7 @@ static inline uint8_t core__char__bytes__is_ascii_alphabetic(uint8_t *l1)
     return l0;
 }
 
-static inline uint8_t core__char__bytes__is_ascii_alphanumeric(uint8_t *l1)
+static RT_SHORT uint8_t core__char__bytes__is_ascii_alphanumeric(uint8_t *l1)
 {
     uint8_t l0;
     uint8_t l2;
@@ -4730,7 +4735,7 @@ static inline uint8_t core__char__bytes__is_ascii_alphanumeric(uint8_t *l1)
     return l0;
 }
 
-static inline uint8_t core__char__bytes__is_ascii_digit(uint8_t *l1)
+static RT_SHORT uint8_t core__char__bytes__is_ascii_digit(uint8_t *l1)
 {
     uint8_t l0;
     uint8_t l2;
@@ -4741,7 +4746,7 @@ static inline uint8_t core__char__bytes__is_ascii_digit(uint8_t *l1)
     return l0;
 }
 
-static inline uint8_t core__char__ranges__in_range(uint32_t l1, uint8_t l2, uint8_t l3)
+static RT_SHORT uint8_t core__char__ranges__in_range(uint32_t l1, uint8_t l2, uint8_t l3)
 {
     uint8_t l0;
     uint32_t l4;
@@ -4795,7 +4800,7 @@ static inline uint8_t core__char__ranges__in_three_ranges(uint32_t l1, uint8_t l
     return l0;
 }
 
-static inline uint8_t core__char__ranges__in_two_ranges(uint32_t l1, uint8_t l2, uint8_t l3, uint8_t l4, uint8_t l5)
+static RT_SHORT uint8_t core__char__ranges__in_two_ranges(uint32_t l1, uint8_t l2, uint8_t l3, uint8_t l4, uint8_t l5)
 {
     uint8_t l0;
     uint32_t l6;
@@ -4851,7 +4856,7 @@ static RT_WITHIN uint8_t core__clone__surely__u8(uint8_t *l1)
     return l0;
 }
 
-static inline uint8_t core__cmp__Ordering__is_le(struct core__cmp__Ordering l1)
+static RT_SHORT uint8_t core__cmp__Ordering__is_le(struct core__cmp__Ordering l1)
 {
     uint8_t l0;
     uint8_t l2;
@@ -4873,7 +4878,7 @@ static inline uint8_t core__cmp__Ordering__is_le(struct core__cmp__Ordering l1)
     return l0;
 }
 
-static inline uint8_t core__cmp__Ordering__is_lt(struct core__cmp__Ordering l1)
+static RT_SHORT uint8_t core__cmp__Ordering__is_lt(struct core__cmp__Ordering l1)
 {
     uint8_t l0;
     uint8_t l2;
@@ -5354,7 +5359,7 @@ static RT_WITHIN uint64_t core__default__U64Default__default(void)
     return l0;
 }
 
-static inline struct core__option__Option__u32 core__int__checked__u32__checked_add(uint32_t l1, uint32_t l2)
+static RT_SHORT struct core__option__Option__u32 core__int__checked__u32__checked_add(uint32_t l1, uint32_t l2)
 {
     struct core__option__Option__u32 l0;
     uint32_t l3;
@@ -5374,7 +5379,7 @@ static inline struct core__option__Option__u32 core__int__checked__u32__checked_
     return l0;
 }
 
-static inline struct core__option__Option__u32 core__int__checked__u32__checked_div(uint32_t l1, uint32_t l2)
+static RT_SHORT struct core__option__Option__u32 core__int__checked__u32__checked_div(uint32_t l1, uint32_t l2)
 {
     struct core__option__Option__u32 l0;
     uint8_t l3;
@@ -5392,7 +5397,7 @@ static inline struct core__option__Option__u32 core__int__checked__u32__checked_
     return l0;
 }
 
-static inline struct core__option__Option__u32 core__int__checked__u32__checked_mul(uint32_t l1, uint32_t l2)
+static RT_SHORT struct core__option__Option__u32 core__int__checked__u32__checked_mul(uint32_t l1, uint32_t l2)
 {
     struct core__option__Option__u32 l0;
     uint8_t l3;
@@ -5421,7 +5426,7 @@ static inline struct core__option__Option__u32 core__int__checked__u32__checked_
     return l0;
 }
 
-static inline struct core__option__Option__u32 core__int__checked__u32__checked_rem(uint32_t l1, uint32_t l2)
+static RT_SHORT struct core__option__Option__u32 core__int__checked__u32__checked_rem(uint32_t l1, uint32_t l2)
 {
     struct core__option__Option__u32 l0;
     uint8_t l3;
@@ -5439,7 +5444,7 @@ static inline struct core__option__Option__u32 core__int__checked__u32__checked_
     return l0;
 }
 
-static inline struct core__option__Option__u32 core__int__checked__u32__checked_sub(uint32_t l1, uint32_t l2)
+static RT_SHORT struct core__option__Option__u32 core__int__checked__u32__checked_sub(uint32_t l1, uint32_t l2)
 {
     struct core__option__Option__u32 l0;
     uint8_t l3;
@@ -5457,7 +5462,7 @@ static inline struct core__option__Option__u32 core__int__checked__u32__checked_
     return l0;
 }
 
-static inline struct core__option__Option__u8 core__int__checked__u8__checked_sub(uint8_t l1, uint8_t l2)
+static RT_SHORT struct core__option__Option__u8 core__int__checked__u8__checked_sub(uint8_t l1, uint8_t l2)
 {
     struct core__option__Option__u8 l0;
     uint8_t l3;
@@ -5493,7 +5498,7 @@ static RT_HERE struct core__option__Option__u64 core__int__checked__usize__check
     return l0;
 }
 
-static inline uint32_t core__int__i32__cast_unsigned(uint32_t l1)
+static RT_SHORT uint32_t core__int__i32__cast_unsigned(uint32_t l1)
 {
     uint32_t l0;
     uint8_t l2;
@@ -5512,7 +5517,7 @@ static inline uint32_t core__int__i32__cast_unsigned(uint32_t l1)
     return l0;
 }
 
-static inline uint64_t core__int__i64__div_euclid(uint64_t l1, uint64_t l2)
+static RT_SHORT uint64_t core__int__i64__div_euclid(uint64_t l1, uint64_t l2)
 {
     uint64_t l0;
     uint8_t l3;
@@ -5543,7 +5548,7 @@ static inline uint64_t core__int__i64__div_euclid(uint64_t l1, uint64_t l2)
     return l0;
 }
 
-static inline uint16_t core__int__u16__from_le_bytes(struct rt_array_uint8_2 l1)
+static RT_SHORT uint16_t core__int__u16__from_le_bytes(struct rt_array_uint8_2 l1)
 {
     uint16_t l0;
     struct rt_array_uint8_2 l2;
@@ -5570,7 +5575,7 @@ static inline uint16_t core__int__u16__from_le_bytes(struct rt_array_uint8_2 l1)
     return l0;
 }
 
-static inline uint16_t core__int__u16__saturating_sub(uint16_t l1, uint16_t l2)
+static RT_SHORT uint16_t core__int__u16__saturating_sub(uint16_t l1, uint16_t l2)
 {
     uint16_t l0;
     uint8_t l3;
@@ -5585,7 +5590,7 @@ static inline uint16_t core__int__u16__saturating_sub(uint16_t l1, uint16_t l2)
     return l0;
 }
 
-static inline struct rt_array_uint8_2 core__int__u16__to_le_bytes(uint16_t l1)
+static RT_SHORT struct rt_array_uint8_2 core__int__u16__to_le_bytes(uint16_t l1)
 {
     struct rt_array_uint8_2 l0;
     uint16_t l2;
@@ -5602,7 +5607,7 @@ static inline struct rt_array_uint8_2 core__int__u16__to_le_bytes(uint16_t l1)
     return l0;
 }
 
-static inline uint32_t core__int__u32__cast_signed(uint32_t l1)
+static RT_SHORT uint32_t core__int__u32__cast_signed(uint32_t l1)
 {
     uint32_t l0;
     uint32_t l2;
@@ -5703,7 +5708,7 @@ static inline struct rt_array_uint8_4 core__int__u32__to_le_bytes(uint32_t l1)
     return l0;
 }
 
-static inline uint64_t core__int__u64__min(uint64_t l1, uint64_t l2)
+static RT_SHORT uint64_t core__int__u64__min(uint64_t l1, uint64_t l2)
 {
     uint64_t l0;
     uint8_t l3;
@@ -5718,7 +5723,7 @@ static inline uint64_t core__int__u64__min(uint64_t l1, uint64_t l2)
     return l0;
 }
 
-static inline uint8_t core__int__u8__min(uint8_t l1, uint8_t l2)
+static RT_SHORT uint8_t core__int__u8__min(uint8_t l1, uint8_t l2)
 {
     uint8_t l0;
     uint8_t l3;
@@ -5733,7 +5738,7 @@ static inline uint8_t core__int__u8__min(uint8_t l1, uint8_t l2)
     return l0;
 }
 
-static inline uint8_t core__int__u8__saturating_sub(uint8_t l1, uint8_t l2)
+static RT_SHORT uint8_t core__int__u8__saturating_sub(uint8_t l1, uint8_t l2)
 {
     uint8_t l0;
     uint8_t l3;
@@ -5748,7 +5753,7 @@ static inline uint8_t core__int__u8__saturating_sub(uint8_t l1, uint8_t l2)
     return l0;
 }
 
-static inline uint64_t core__int__usize__div_ceil(uint64_t l1, uint64_t l2)
+static RT_SHORT uint64_t core__int__usize__div_ceil(uint64_t l1, uint64_t l2)
 {
     uint64_t l0;
     uint64_t l3;
@@ -5767,7 +5772,7 @@ static inline uint64_t core__int__usize__div_ceil(uint64_t l1, uint64_t l2)
     return l0;
 }
 
-static inline uint64_t core__int__usize__max(uint64_t l1, uint64_t l2)
+static RT_SHORT uint64_t core__int__usize__max(uint64_t l1, uint64_t l2)
 {
     uint64_t l0;
     uint8_t l3;
@@ -5782,7 +5787,7 @@ static inline uint64_t core__int__usize__max(uint64_t l1, uint64_t l2)
     return l0;
 }
 
-static inline uint64_t core__int__usize__min(uint64_t l1, uint64_t l2)
+static RT_SHORT uint64_t core__int__usize__min(uint64_t l1, uint64_t l2)
 {
     uint64_t l0;
     uint8_t l3;
@@ -5797,7 +5802,7 @@ static inline uint64_t core__int__usize__min(uint64_t l1, uint64_t l2)
     return l0;
 }
 
-static inline uint64_t core__int__usize__saturating_sub(uint64_t l1, uint64_t l2)
+static RT_SHORT uint64_t core__int__usize__saturating_sub(uint64_t l1, uint64_t l2)
 {
     uint64_t l0;
     uint8_t l3;
@@ -8474,7 +8479,7 @@ static inline struct core__result__Result__unit_Refusal count_images__placed(rt_
     return l0;
 }
 
-static inline void count_images__prepared(rt_slice l1, rt_slice l2, rt_slice l3, struct count_images__Asking l4, rt_slice l5, rt_slice l6)
+static RT_SHORT void count_images__prepared(rt_slice l1, rt_slice l2, rt_slice l3, struct count_images__Asking l4, rt_slice l5, rt_slice l6)
 {
     struct rt_array_uint64_129 l7;
     uint8_t *l10;
@@ -8638,7 +8643,7 @@ static RT_WITHIN void counting__copies__write__u64(rt_slice l1, uint64_t l2, rt_
     return;
 }
 
-static inline struct counting__count__Tally counting__count__add(struct counting__count__Tally l1, struct counting__count__Tally l2)
+static RT_SHORT struct counting__count__Tally counting__count__add(struct counting__count__Tally l1, struct counting__count__Tally l2)
 {
     struct counting__count__Tally l0;
     uint32_t l3;
@@ -8700,7 +8705,7 @@ end1:;
     return l0;
 }
 
-static inline uint64_t counting__count__commands(rt_slice l1, uint64_t l2)
+static RT_SHORT uint64_t counting__count__commands(rt_slice l1, uint64_t l2)
 {
     uint64_t l0;
     uint64_t l3;
@@ -8724,7 +8729,7 @@ end1:;
     return l0;
 }
 
-static inline uint64_t counting__count__held(rt_slice l1, uint64_t l2)
+static RT_SHORT uint64_t counting__count__held(rt_slice l1, uint64_t l2)
 {
     uint64_t l0;
     uint64_t l3;
@@ -8735,7 +8740,7 @@ static inline uint64_t counting__count__held(rt_slice l1, uint64_t l2)
     return l0;
 }
 
-static inline struct counting__count__Tally counting__count__nothing(void)
+static RT_SHORT struct counting__count__Tally counting__count__nothing(void)
 {
     struct counting__count__Tally l0;
     l0.f0 = UINT32_C(0);
@@ -8822,7 +8827,7 @@ static inline struct counting__count__Tally counting__count__one(struct engine__
     return l0;
 }
 
-static inline struct counting__count__Tally counting__count__resting(rt_slice l1, struct counting__count__Asked l2)
+static RT_SHORT struct counting__count__Tally counting__count__resting(rt_slice l1, struct counting__count__Asked l2)
 {
     struct counting__count__Tally l0;
     uint64_t l3;
@@ -8850,7 +8855,7 @@ static inline struct counting__count__Tally counting__count__resting(rt_slice l1
     return l0;
 }
 
-static inline uint64_t counting__rows__fresh_row(uint64_t l1, uint64_t l2)
+static RT_SHORT uint64_t counting__rows__fresh_row(uint64_t l1, uint64_t l2)
 {
     uint64_t l0;
     uint8_t l3;
@@ -8931,7 +8936,7 @@ static inline void counting__rows__restore(rt_slice l1, rt_slice l2, uint64_t l3
     return;
 }
 
-static inline struct counting__rows__Saved counting__rows__save(rt_slice l1, rt_slice l2, rt_slice l3, uint64_t l4, uint64_t l5)
+static RT_SHORT struct counting__rows__Saved counting__rows__save(rt_slice l1, rt_slice l2, rt_slice l3, uint64_t l4, uint64_t l5)
 {
     struct counting__rows__Saved l0;
     uint64_t l6;
@@ -9123,7 +9128,7 @@ end1:;
     return l0;
 }
 
-static inline uint8_t derive__ends(uint8_t l1, uint64_t l2)
+static RT_SHORT uint8_t derive__ends(uint8_t l1, uint64_t l2)
 {
     uint8_t l0;
     uint8_t l3;
@@ -9146,7 +9151,7 @@ static inline uint8_t derive__ends(uint8_t l1, uint64_t l2)
     return l0;
 }
 
-static inline uint64_t derive__entry(uint8_t l1, uint8_t l2)
+static RT_SHORT uint64_t derive__entry(uint8_t l1, uint8_t l2)
 {
     uint64_t l0;
     uint64_t l3;
@@ -9167,7 +9172,7 @@ static inline uint64_t derive__entry(uint8_t l1, uint8_t l2)
     return l0;
 }
 
-static inline uint64_t derive__index(uint8_t l1, uint8_t l2)
+static RT_SHORT uint64_t derive__index(uint8_t l1, uint8_t l2)
 {
     uint64_t l0;
     uint8_t l3;
@@ -9235,7 +9240,7 @@ static RT_HERE struct derive__Mark derive__pushed(rt_slice l1, uint64_t l2, uint
     return l0;
 }
 
-static inline void derive__roles__leave(rt_slice l1, uint64_t l2, uint64_t l3, uint8_t l4, struct core__option__Option__u8 l5)
+static RT_SHORT void derive__roles__leave(rt_slice l1, uint64_t l2, uint64_t l3, uint8_t l4, struct core__option__Option__u8 l5)
 {
     uint8_t *l7;
     uint8_t *l8;
@@ -9357,7 +9362,7 @@ static inline uint8_t derive__roles__role(rt_slice l1, struct derive__Mark l2, u
     return l0;
 }
 
-static inline uint8_t derive__roles__said(uint8_t l1, uint8_t l2)
+static RT_SHORT uint8_t derive__roles__said(uint8_t l1, uint8_t l2)
 {
     uint8_t l0;
     uint8_t l3;
@@ -9438,7 +9443,7 @@ static inline struct text_shape__Act derive__table__act_at(uint64_t l1)
     return l0;
 }
 
-static inline uint8_t derive__table__mark_at(uint64_t l1)
+static RT_SHORT uint8_t derive__table__mark_at(uint64_t l1)
 {
     uint8_t l0;
     rt_slice l2;
@@ -9527,7 +9532,7 @@ end1:;
     return l0;
 }
 
-static inline uint8_t directory__rows__is_row(struct directory__Row l1, uint16_t l2, uint16_t l3)
+static RT_SHORT uint8_t directory__rows__is_row(struct directory__Row l1, uint16_t l2, uint16_t l3)
 {
     uint8_t l0;
     uint8_t l4;
@@ -9539,7 +9544,7 @@ static inline uint8_t directory__rows__is_row(struct directory__Row l1, uint16_t
     return l0;
 }
 
-static inline uint16_t directory__rows__look(rt_slice l1, uint64_t l2)
+static RT_SHORT uint16_t directory__rows__look(rt_slice l1, uint64_t l2)
 {
     uint16_t l0;
     struct core__option__Option__u16 l3;
@@ -9578,7 +9583,7 @@ static inline void directory__rows__put_row(rt_slice l1, uint64_t l2, struct dir
     return;
 }
 
-static inline struct directory__Row directory__rows__row_at(rt_slice l1, uint64_t l2)
+static RT_SHORT struct directory__Row directory__rows__row_at(rt_slice l1, uint64_t l2)
 {
     struct directory__Row l0;
     uint64_t l3;
@@ -9604,7 +9609,7 @@ static inline struct directory__Row directory__rows__row_at(rt_slice l1, uint64_
     return l0;
 }
 
-static inline uint8_t directory__rows__there(rt_slice l1, uint8_t l2, uint8_t l3, uint8_t l4)
+static RT_SHORT uint8_t directory__rows__there(rt_slice l1, uint8_t l2, uint8_t l3, uint8_t l4)
 {
     uint8_t l0;
     struct core__option__Option__Row l5;
@@ -10023,7 +10028,7 @@ static inline struct emit__Put emit__stmts__when(rt_slice l1, rt_slice l2, uint6
     return l0;
 }
 
-static inline struct emit__Put emit__words__add(rt_slice l1, struct emit__Put l2, uint64_t l3)
+static RT_SHORT struct emit__Put emit__words__add(rt_slice l1, struct emit__Put l2, uint64_t l3)
 {
     struct emit__Put l0;
     uint8_t *l6;
@@ -10039,7 +10044,7 @@ static inline struct emit__Put emit__words__add(rt_slice l1, struct emit__Put l2
     return l0;
 }
 
-static inline uint64_t emit__words__coded(struct commands__kind__Kind l1, uint64_t l2, uint64_t l3)
+static RT_SHORT uint64_t emit__words__coded(struct commands__kind__Kind l1, uint64_t l2, uint64_t l3)
 {
     uint64_t l0;
     uint64_t l4;
@@ -10106,7 +10111,7 @@ static inline uint64_t emit__words__leaf(rt_slice l1, uint64_t l2)
     return l0;
 }
 
-static inline uint64_t emit__words__leaf_size(uint8_t l1)
+static RT_SHORT uint64_t emit__words__leaf_size(uint8_t l1)
 {
     uint64_t l0;
     uint8_t l2;
@@ -10124,7 +10129,7 @@ static inline uint64_t emit__words__leaf_size(uint8_t l1)
     return l0;
 }
 
-static inline uint64_t emit__words__null_word(uint8_t l1)
+static RT_SHORT uint64_t emit__words__null_word(uint8_t l1)
 {
     uint64_t l0;
     uint32_t l2;
@@ -10218,7 +10223,7 @@ end1:;
     return l0;
 }
 
-static inline void emit__words__store(rt_slice l1, uint64_t l2, uint64_t l3)
+static RT_SHORT void emit__words__store(rt_slice l1, uint64_t l2, uint64_t l3)
 {
     uint64_t l4;
     uint8_t *l5;
@@ -10490,7 +10495,7 @@ static RT_HERE struct layout__Numbers engine__after(struct layout__Numbers l1, s
     return l0;
 }
 
-static inline uint64_t engine__left_holding(rt_slice l1, uint64_t l2, uint64_t l3)
+static RT_SHORT uint64_t engine__left_holding(rt_slice l1, uint64_t l2, uint64_t l3)
 {
     uint64_t l0;
     uint8_t l4;
@@ -10866,7 +10871,7 @@ static inline struct core__result__Result__Effect_Refusal execute_operator__oper
     return l0;
 }
 
-static inline uint8_t execute_operator__result_byte(uint8_t l1, uint8_t l2)
+static RT_SHORT uint8_t execute_operator__result_byte(uint8_t l1, uint8_t l2)
 {
     uint8_t l0;
     uint8_t l3;
@@ -10975,7 +10980,7 @@ static inline struct execute_stack__Effect execute_stack__negate(rt_slice l1, rt
     return l0;
 }
 
-static inline struct execute_stack__Effect execute_stack__push(rt_slice l1, rt_slice l2, struct execute_stack__Actor l3, uint64_t l4)
+static RT_SHORT struct execute_stack__Effect execute_stack__push(rt_slice l1, rt_slice l2, struct execute_stack__Actor l3, uint64_t l4)
 {
     struct execute_stack__Effect l0;
     uint8_t *l6;
@@ -11028,7 +11033,7 @@ static inline struct execute_stack__Effect execute_stack__push_this(rt_slice l1,
     return l0;
 }
 
-static inline void execute_stack__put(rt_slice l1, rt_slice l2, uint64_t l3, uint64_t l4, uint64_t l5, uint64_t l6)
+static RT_SHORT void execute_stack__put(rt_slice l1, rt_slice l2, uint64_t l3, uint64_t l4, uint64_t l5, uint64_t l6)
 {
     uint64_t l7;
     uint64_t l8;
@@ -11097,7 +11102,7 @@ static inline struct execute_stack__Effect execute_variables__read(rt_slice l1, 
     return l0;
 }
 
-static inline struct execute_stack__Effect execute_variables__replace(rt_slice l1, uint64_t l2, uint64_t l3)
+static RT_SHORT struct execute_stack__Effect execute_variables__replace(rt_slice l1, uint64_t l2, uint64_t l3)
 {
     struct execute_stack__Effect l0;
     uint64_t l4;
@@ -11244,7 +11249,7 @@ end1:;
     return l0;
 }
 
-static inline uint64_t holders__holder_of(struct rt_array_holders__Record_256 l1, uint64_t l2, uint64_t l3, uint64_t l4)
+static RT_SHORT uint64_t holders__holder_of(struct rt_array_holders__Record_256 l1, uint64_t l2, uint64_t l3, uint64_t l4)
 {
     uint64_t l0;
     struct rt_array_holders__Record_256 l5;
@@ -11733,7 +11738,7 @@ static RT_HERE struct interpreter__turns__Going interpreter__turns__turn(struct 
     return l0;
 }
 
-static inline uint8_t judging__digits__digit(uint64_t l1, uint8_t l2)
+static RT_SHORT uint8_t judging__digits__digit(uint64_t l1, uint8_t l2)
 {
     uint8_t l0;
     uint64_t l3;
@@ -11746,7 +11751,7 @@ static inline uint8_t judging__digits__digit(uint64_t l1, uint8_t l2)
     return l0;
 }
 
-static inline uint64_t judging__digits__mark(uint64_t l1, uint8_t l2, uint8_t l3)
+static RT_SHORT uint64_t judging__digits__mark(uint64_t l1, uint8_t l2, uint8_t l3)
 {
     uint64_t l0;
     uint8_t l4;
@@ -11767,7 +11772,7 @@ static inline uint64_t judging__digits__mark(uint64_t l1, uint8_t l2, uint8_t l3
     return l0;
 }
 
-static inline uint64_t judging__digits__power(uint8_t l1)
+static RT_SHORT uint64_t judging__digits__power(uint8_t l1)
 {
     uint64_t l0;
     uint64_t l2;
@@ -11809,7 +11814,7 @@ static inline uint64_t judging__digits__power(uint8_t l1)
     return l0;
 }
 
-static inline struct judge__Facts judging__expression__appended(uint8_t l1, uint8_t l2, struct judge__Facts l3, struct judge__Facts l4)
+static RT_SHORT struct judge__Facts judging__expression__appended(uint8_t l1, uint8_t l2, struct judge__Facts l3, struct judge__Facts l4)
 {
     struct judge__Facts l0;
     uint8_t l5;
@@ -11833,7 +11838,7 @@ static inline struct judge__Facts judging__expression__appended(uint8_t l1, uint
     return l0;
 }
 
-static inline struct judge__Facts judging__expression__combined(uint8_t l1, struct judge__Facts l2, struct judge__Facts l3)
+static RT_SHORT struct judge__Facts judging__expression__combined(uint8_t l1, struct judge__Facts l2, struct judge__Facts l3)
 {
     struct judge__Facts l0;
     uint64_t l4;
@@ -11859,7 +11864,7 @@ static inline struct judge__Facts judging__expression__combined(uint8_t l1, stru
     return l0;
 }
 
-static inline struct judge__Facts judging__expression__constructed(uint8_t l1, struct judge__Facts l2)
+static RT_SHORT struct judge__Facts judging__expression__constructed(uint8_t l1, struct judge__Facts l2)
 {
     struct judge__Facts l0;
     uint64_t l3;
@@ -11875,7 +11880,7 @@ static inline struct judge__Facts judging__expression__constructed(uint8_t l1, s
     return l0;
 }
 
-static inline uint8_t judging__expression__gives(uint8_t l1, uint8_t l2)
+static RT_SHORT uint8_t judging__expression__gives(uint8_t l1, uint8_t l2)
 {
     uint8_t l0;
     uint8_t l3;
@@ -11895,7 +11900,7 @@ end1:;
     return l0;
 }
 
-static inline struct judge__Facts judging__expression__negated(struct judge__Facts l1)
+static RT_SHORT struct judge__Facts judging__expression__negated(struct judge__Facts l1)
 {
     struct judge__Facts l0;
     uint64_t l2;
@@ -11911,7 +11916,7 @@ static inline struct judge__Facts judging__expression__negated(struct judge__Fac
     return l0;
 }
 
-static inline struct judge__Facts judging__expression__no_args(void)
+static RT_SHORT struct judge__Facts judging__expression__no_args(void)
 {
     struct judge__Facts l0;
     l0.f0 = UINT64_C(0);
@@ -11994,7 +11999,7 @@ end1:;
     return l0;
 }
 
-static inline uint8_t judging__fault__named(uint8_t l1)
+static RT_SHORT uint8_t judging__fault__named(uint8_t l1)
 {
     uint8_t l0;
     struct types__refusal__Refusal l3;
@@ -12007,7 +12012,7 @@ static inline uint8_t judging__fault__named(uint8_t l1)
     return l0;
 }
 
-static inline uint8_t judging__fault__worst(uint8_t l1, uint8_t l2)
+static RT_SHORT uint8_t judging__fault__worst(uint8_t l1, uint8_t l2)
 {
     uint8_t l0;
     uint8_t l3;
@@ -12055,7 +12060,7 @@ static inline struct judge__Judged judging__path__lead_by(rt_slice l1, rt_slice 
     return l0;
 }
 
-static inline struct judge__Judged judging__path__local(uint64_t l1, uint8_t l2)
+static RT_SHORT struct judge__Judged judging__path__local(uint64_t l1, uint8_t l2)
 {
     struct judge__Judged l0;
     uint8_t l3;
@@ -12078,7 +12083,7 @@ static inline struct judge__Judged judging__path__local(uint64_t l1, uint8_t l2)
     return l0;
 }
 
-static inline uint8_t judging__path__look(rt_slice l1, uint64_t l2)
+static RT_SHORT uint8_t judging__path__look(rt_slice l1, uint64_t l2)
 {
     uint8_t l0;
     struct core__option__Option__u8 l3;
@@ -12089,7 +12094,7 @@ static inline uint8_t judging__path__look(rt_slice l1, uint64_t l2)
     return l0;
 }
 
-static inline struct judge__Judged judging__path__param(rt_slice l1, rt_slice l2, uint8_t l3, uint8_t l4, uint8_t l5)
+static RT_SHORT struct judge__Judged judging__path__param(rt_slice l1, rt_slice l2, uint8_t l3, uint8_t l4, uint8_t l5)
 {
     struct judge__Judged l0;
     uint8_t l6;
@@ -12110,7 +12115,7 @@ static inline struct judge__Judged judging__path__param(rt_slice l1, rt_slice l2
     return l0;
 }
 
-static inline struct judge__Judged judging__path__start(rt_slice l1, rt_slice l2, uint8_t l3, uint64_t l4, uint8_t l5)
+static RT_SHORT struct judge__Judged judging__path__start(rt_slice l1, rt_slice l2, uint8_t l3, uint64_t l4, uint8_t l5)
 {
     struct judge__Judged l0;
     uint8_t l6;
@@ -12129,7 +12134,7 @@ static inline struct judge__Judged judging__path__start(rt_slice l1, rt_slice l2
     return l0;
 }
 
-static inline uint8_t judging__path__type_at(rt_slice l1, uint8_t l2, uint8_t l3)
+static RT_SHORT uint8_t judging__path__type_at(rt_slice l1, uint8_t l2, uint8_t l3)
 {
     uint8_t l0;
     uint64_t l4;
@@ -12144,7 +12149,7 @@ static inline uint8_t judging__path__type_at(rt_slice l1, uint8_t l2, uint8_t l3
     return l0;
 }
 
-static inline struct judge__Done judging__statement__branched(struct judge__Scope l1, struct judge__Facts l2, struct judge__Done l3)
+static RT_SHORT struct judge__Done judging__statement__branched(struct judge__Scope l1, struct judge__Facts l2, struct judge__Done l3)
 {
     struct judge__Done l0;
     uint8_t l4;
@@ -12206,7 +12211,7 @@ static RT_HERE struct judge__Done judging__statement__declared(struct judge__Sco
     return l0;
 }
 
-static inline struct judge__Done judging__statement__followed(struct judge__Done l1, struct judge__Done l2)
+static RT_SHORT struct judge__Done judging__statement__followed(struct judge__Done l1, struct judge__Done l2)
 {
     struct judge__Done l0;
     uint64_t l4;
@@ -12228,7 +12233,7 @@ static inline struct judge__Done judging__statement__followed(struct judge__Done
     return l0;
 }
 
-static inline struct judge__Done judging__statement__nothing(struct judge__Scope l1)
+static RT_SHORT struct judge__Done judging__statement__nothing(struct judge__Scope l1)
 {
     struct judge__Done l0;
     l0.f0 = UINT64_C(0);
@@ -12290,7 +12295,7 @@ static inline void layout__begin(rt_slice l1, uint64_t l2, uint16_t l3, uint16_t
     return;
 }
 
-static inline uint64_t layout__cell(uint8_t l1, uint64_t l2)
+static RT_SHORT uint64_t layout__cell(uint8_t l1, uint64_t l2)
 {
     uint64_t l0;
     uint64_t l3;
@@ -12305,7 +12310,7 @@ static inline uint64_t layout__cell(uint8_t l1, uint64_t l2)
     return l0;
 }
 
-static inline uint8_t layout__due(struct layout__Numbers l1)
+static RT_SHORT uint8_t layout__due(struct layout__Numbers l1)
 {
     uint8_t l0;
     l0 = (uint8_t)(UINT64_C(0) < l1.f5);
@@ -12348,7 +12353,7 @@ static inline void layout__go(rt_slice l1, uint64_t l2, uint64_t l3, uint64_t l4
     return;
 }
 
-static inline uint64_t layout__head(rt_slice l1, uint64_t l2, uint64_t l3)
+static RT_SHORT uint64_t layout__head(rt_slice l1, uint64_t l2, uint64_t l3)
 {
     uint64_t l0;
     uint64_t l4;
@@ -12365,7 +12370,7 @@ static inline uint64_t layout__head(rt_slice l1, uint64_t l2, uint64_t l3)
     return l0;
 }
 
-static inline uint8_t layout__holds(rt_slice l1, uint64_t l2)
+static RT_SHORT uint8_t layout__holds(rt_slice l1, uint64_t l2)
 {
     uint8_t l0;
     uint64_t l3;
@@ -12390,7 +12395,7 @@ static inline uint8_t layout__holds(rt_slice l1, uint64_t l2)
     return l0;
 }
 
-static inline uint64_t layout__operand(uint64_t l1)
+static RT_SHORT uint64_t layout__operand(uint64_t l1)
 {
     uint64_t l0;
     l0 = (uint64_t)((uint64_t)l1 / (uint64_t)UINT64_C(4294967296));
@@ -12438,7 +12443,7 @@ static inline void layout__seat(rt_slice l1, uint64_t l2, uint64_t l3)
     return;
 }
 
-static inline uint8_t layout__type_byte(uint64_t l1)
+static RT_SHORT uint8_t layout__type_byte(uint64_t l1)
 {
     uint8_t l0;
     uint64_t l2;
@@ -12449,7 +12454,7 @@ static inline uint8_t layout__type_byte(uint64_t l1)
     return l0;
 }
 
-static inline struct core__option__Option__u8 lexer__alone(uint8_t l1)
+static RT_SHORT struct core__option__Option__u8 lexer__alone(uint8_t l1)
 {
     struct core__option__Option__u8 l0;
     uint8_t l2;
@@ -12507,7 +12512,7 @@ static inline struct core__option__Option__u8 lexer__alone(uint8_t l1)
     return l0;
 }
 
-static inline uint8_t lexer__bytes__between(uint8_t l1, uint8_t l2, uint8_t l3)
+static RT_SHORT uint8_t lexer__bytes__between(uint8_t l1, uint8_t l2, uint8_t l3)
 {
     uint8_t l0;
     uint8_t l4;
@@ -12526,7 +12531,7 @@ static inline uint8_t lexer__bytes__between(uint8_t l1, uint8_t l2, uint8_t l3)
     return l0;
 }
 
-static inline uint8_t lexer__bytes__byte(rt_slice l1, uint64_t l2)
+static RT_SHORT uint8_t lexer__bytes__byte(rt_slice l1, uint64_t l2)
 {
     uint8_t l0;
     struct core__option__Option__u8 l3;
@@ -12624,7 +12629,7 @@ static RT_HERE struct core__option__Option__u64 lexer__bytes__closing(rt_slice l
     return l0;
 }
 
-static inline uint64_t lexer__bytes__digits(rt_slice l1)
+static RT_SHORT uint64_t lexer__bytes__digits(rt_slice l1)
 {
     uint64_t l0;
     struct core__iter__closures__TakeWhile__Iter_u8_digits_take_while_Self l2;
@@ -12708,7 +12713,7 @@ end1:;
     return l0;
 }
 
-static inline uint8_t lexer__bytes__is_digit(uint8_t l1)
+static RT_SHORT uint8_t lexer__bytes__is_digit(uint8_t l1)
 {
     uint8_t l0;
     uint8_t l2;
@@ -12719,7 +12724,7 @@ static inline uint8_t lexer__bytes__is_digit(uint8_t l1)
     return l0;
 }
 
-static inline uint8_t lexer__bytes__is_letter(uint8_t l1)
+static RT_SHORT uint8_t lexer__bytes__is_letter(uint8_t l1)
 {
     uint8_t l0;
     uint8_t l2;
@@ -12730,7 +12735,7 @@ static inline uint8_t lexer__bytes__is_letter(uint8_t l1)
     return l0;
 }
 
-static inline uint8_t lexer__bytes__is_name_byte(uint8_t l1)
+static RT_SHORT uint8_t lexer__bytes__is_name_byte(uint8_t l1)
 {
     uint8_t l0;
     uint8_t l2;
@@ -12749,7 +12754,7 @@ static inline uint8_t lexer__bytes__is_name_byte(uint8_t l1)
     return l0;
 }
 
-static inline uint64_t lexer__bytes__names(rt_slice l1)
+static RT_SHORT uint64_t lexer__bytes__names(rt_slice l1)
 {
     uint64_t l0;
     struct core__iter__closures__TakeWhile__Iter_u8_names_take_while_Self l2;
@@ -12762,7 +12767,7 @@ static inline uint64_t lexer__bytes__names(rt_slice l1)
     return l0;
 }
 
-static inline uint8_t lexer__bytes__opens(uint8_t l1, uint8_t l2)
+static RT_SHORT uint8_t lexer__bytes__opens(uint8_t l1, uint8_t l2)
 {
     uint8_t l0;
     uint8_t l3;
@@ -12774,7 +12779,7 @@ static inline uint8_t lexer__bytes__opens(uint8_t l1, uint8_t l2)
     return l0;
 }
 
-static inline uint8_t lexer__bytes__signed(uint8_t l1, uint8_t l2)
+static RT_SHORT uint8_t lexer__bytes__signed(uint8_t l1, uint8_t l2)
 {
     uint8_t l0;
     uint8_t l3;
@@ -12889,7 +12894,7 @@ static inline uint64_t lexer__gaps__beyond(rt_slice l1, uint64_t l2)
     return l0;
 }
 
-static inline uint8_t lexer__gaps__eight(rt_slice l1, uint64_t l2)
+static RT_SHORT uint8_t lexer__gaps__eight(rt_slice l1, uint64_t l2)
 {
     uint8_t l0;
     uint8_t l3;
@@ -12974,7 +12979,7 @@ end1:;
     return l0;
 }
 
-static inline uint64_t lexer__gaps__first(rt_slice l1)
+static RT_SHORT uint64_t lexer__gaps__first(rt_slice l1)
 {
     uint64_t l0;
     l0 = lexer__gaps__beyond(l1, UINT64_C(0));
@@ -13639,7 +13644,7 @@ static inline uint8_t lexer__words__kind(rt_slice l1)
     return l0;
 }
 
-static inline uint8_t lexer__words__only(rt_slice l1, uint8_t l2, rt_slice l3)
+static RT_SHORT uint8_t lexer__words__only(rt_slice l1, uint8_t l2, rt_slice l3)
 {
     uint8_t l0;
     uint8_t l4;
@@ -13654,7 +13659,7 @@ static inline uint8_t lexer__words__only(rt_slice l1, uint8_t l2, rt_slice l3)
     return l0;
 }
 
-static inline uint8_t lexer__words__same(rt_slice l1, rt_slice l2)
+static RT_SHORT uint8_t lexer__words__same(rt_slice l1, rt_slice l2)
 {
     uint8_t l0;
     rt_slice l3;
@@ -13854,14 +13859,14 @@ static RT_APART uint64_t listing__image__listing(rt_slice l1, rt_slice l2)
     return l0;
 }
 
-static inline uint64_t little_endian__index(uint8_t l1)
+static RT_SHORT uint64_t little_endian__index(uint8_t l1)
 {
     uint64_t l0;
     l0 = core__convert__UsizeFromU8__from(l1);
     return l0;
 }
 
-static inline uint64_t little_endian__pair_at(rt_slice l1, uint64_t l2)
+static RT_SHORT uint64_t little_endian__pair_at(rt_slice l1, uint64_t l2)
 {
     uint64_t l0;
     uint16_t l3;
@@ -14901,7 +14906,7 @@ static RT_HERE struct core__result__Result__rt_tuple2_u8_u64_Refusal read_exprs_
     return l0;
 }
 
-static inline uint8_t read_exprs__read__is_type(uint64_t l1, uint8_t l2)
+static RT_SHORT uint8_t read_exprs__read__is_type(uint64_t l1, uint8_t l2)
 {
     uint8_t l0;
     uint64_t l3;
@@ -15009,7 +15014,7 @@ static RT_HERE struct core__result__Result__rt_tuple2_u8_u64_Refusal read_exprs_
     return l0;
 }
 
-static inline void read_params__clear(rt_slice l1, uint64_t l2, uint64_t l3)
+static RT_SHORT void read_params__clear(rt_slice l1, uint64_t l2, uint64_t l3)
 {
     uint64_t l5;
     uint8_t *l6;
@@ -16167,7 +16172,7 @@ end1:;
     return l0;
 }
 
-static inline struct read_schedule__Planned read_schedule__joined(struct read_schedule__Planned l1, struct read_schedule__Planned l2)
+static RT_SHORT struct read_schedule__Planned read_schedule__joined(struct read_schedule__Planned l1, struct read_schedule__Planned l2)
 {
     struct read_schedule__Planned l0;
     uint64_t l3;
@@ -16733,7 +16738,7 @@ static inline struct core__result__Result__rt_tuple2_u64_Done_Refusal read_stmts
     return l0;
 }
 
-static inline struct read_text__Answer read_text__answered(struct core__result__Result__u32_Refusal l1)
+static RT_SHORT struct read_text__Answer read_text__answered(struct core__result__Result__u32_Refusal l1)
 {
     struct read_text__Answer l0;
     struct read_text__Answer l4;
@@ -17089,7 +17094,7 @@ end1:;
     return l0;
 }
 
-static inline uint8_t resolve__declarations__few(uint64_t l1, uint64_t l2)
+static RT_SHORT uint8_t resolve__declarations__few(uint64_t l1, uint64_t l2)
 {
     uint8_t l0;
     uint64_t l3;
@@ -17116,7 +17121,7 @@ static RT_WITHIN uint8_t resolve__declarations__fn__rows_ok__between_all_Fn__cal
     return l0;
 }
 
-static inline uint8_t resolve__declarations__is_new(rt_slice l1, rt_slice l2, uint64_t l3, uint64_t l4)
+static RT_SHORT uint8_t resolve__declarations__is_new(rt_slice l1, rt_slice l2, uint64_t l3, uint64_t l4)
 {
     uint8_t l0;
     struct core__option__Option__u64 l5;
@@ -17134,7 +17139,7 @@ static inline uint8_t resolve__declarations__is_new(rt_slice l1, rt_slice l2, ui
     return l0;
 }
 
-static inline uint8_t resolve__declarations__narrow(rt_slice l1)
+static RT_SHORT uint8_t resolve__declarations__narrow(rt_slice l1)
 {
     uint8_t l0;
     l0 = resolve__declarations__between_all__unit(l1);
@@ -17176,7 +17181,7 @@ static inline uint8_t resolve__declarations__row_ok(rt_slice l1, rt_slice l2, ui
     return l0;
 }
 
-static inline uint8_t resolve__declarations__rows_ok(rt_slice l1, rt_slice l2, rt_slice l3)
+static RT_SHORT uint8_t resolve__declarations__rows_ok(rt_slice l1, rt_slice l2, rt_slice l3)
 {
     uint8_t l0;
     uint8_t *l4;
@@ -17246,7 +17251,7 @@ end2:;
     return l0;
 }
 
-static inline uint64_t resolve__declarations__type_byte(rt_slice l1, rt_slice l2, uint8_t l3, uint64_t l4)
+static RT_SHORT uint64_t resolve__declarations__type_byte(rt_slice l1, rt_slice l2, uint8_t l3, uint64_t l4)
 {
     uint64_t l0;
     uint8_t l5;
@@ -17265,7 +17270,7 @@ static inline uint64_t resolve__declarations__type_byte(rt_slice l1, rt_slice l2
     return l0;
 }
 
-static inline uint8_t resolve__declarations__type_kind(uint8_t l1)
+static RT_SHORT uint8_t resolve__declarations__type_kind(uint8_t l1)
 {
     uint8_t l0;
     l0 = core__int__u8__saturating_sub(l1, UINT8_C(51));
@@ -17323,7 +17328,7 @@ end2:;
     return l0;
 }
 
-static inline uint64_t resolve__literals__digit_value(uint8_t l1)
+static RT_SHORT uint64_t resolve__literals__digit_value(uint8_t l1)
 {
     uint64_t l0;
     uint8_t l2;
@@ -17332,7 +17337,7 @@ static inline uint64_t resolve__literals__digit_value(uint8_t l1)
     return l0;
 }
 
-static inline struct core__option__Option__u32 resolve__literals__int_word(rt_slice l1, uint64_t l2)
+static RT_SHORT struct core__option__Option__u32 resolve__literals__int_word(rt_slice l1, uint64_t l2)
 {
     struct core__option__Option__u32 l0;
     uint64_t l3;
@@ -17349,7 +17354,7 @@ static inline struct core__option__Option__u32 resolve__literals__int_word(rt_sl
     return l0;
 }
 
-static inline uint64_t resolve__literals__longer(uint64_t l1, uint8_t l2)
+static RT_SHORT uint64_t resolve__literals__longer(uint64_t l1, uint8_t l2)
 {
     uint64_t l0;
     uint64_t l3;
@@ -17362,7 +17367,7 @@ static inline uint64_t resolve__literals__longer(uint64_t l1, uint8_t l2)
     return l0;
 }
 
-static inline struct core__option__Option__u32 resolve__literals__nat_word(rt_slice l1, uint64_t l2)
+static RT_SHORT struct core__option__Option__u32 resolve__literals__nat_word(rt_slice l1, uint64_t l2)
 {
     struct core__option__Option__u32 l0;
     struct core__result__Result__u32_TryFromIntError l3;
@@ -17476,7 +17481,7 @@ static RT_WITHIN uint8_t resolve__names__fn__lookup__position_FnMut__call_mut(ui
     return l0;
 }
 
-static inline uint8_t resolve__names__letter(rt_slice l1, uint64_t l2)
+static RT_SHORT uint8_t resolve__names__letter(rt_slice l1, uint64_t l2)
 {
     uint8_t l0;
     uint8_t l3;
@@ -17560,7 +17565,7 @@ static RT_WITHIN uint8_t resolve__resolve__declarations__few_Fn__call(uint8_t *l
     return l0;
 }
 
-static inline uint64_t resolve__tables__add(rt_slice l1, uint64_t l2, uint64_t l3, uint8_t l4)
+static RT_SHORT uint64_t resolve__tables__add(rt_slice l1, uint64_t l2, uint64_t l3, uint8_t l4)
 {
     uint64_t l0;
     uint8_t l5;
@@ -17579,7 +17584,7 @@ static inline uint64_t resolve__tables__add(rt_slice l1, uint64_t l2, uint64_t l
     return l0;
 }
 
-static inline uint64_t resolve__tables__counted(uint64_t l1, uint8_t l2)
+static RT_SHORT uint64_t resolve__tables__counted(uint64_t l1, uint8_t l2)
 {
     uint64_t l0;
     uint64_t l3;
@@ -17640,7 +17645,7 @@ end2:;
     return l0;
 }
 
-static inline void resolve__tables__put(rt_slice l1, uint64_t l2, uint64_t l3)
+static RT_SHORT void resolve__tables__put(rt_slice l1, uint64_t l2, uint64_t l3)
 {
     uint8_t l5;
     uint64_t l6;
@@ -18043,7 +18048,7 @@ static RT_HERE struct run_images__Report run_images__settled(struct core__result
     return l0;
 }
 
-static inline void scheduler__begin__begin_all(rt_slice l1, rt_slice l2, uint64_t l3, uint64_t l4)
+static RT_SHORT void scheduler__begin__begin_all(rt_slice l1, rt_slice l2, uint64_t l3, uint64_t l4)
 {
     uint64_t l5;
     uint8_t l6;
@@ -18116,7 +18121,7 @@ static inline void scheduler__begin__begin_one(rt_slice l1, rt_slice l2, uint64_
     return;
 }
 
-static inline uint8_t scheduler__begin__means(uint64_t l1, uint64_t l2)
+static RT_SHORT uint8_t scheduler__begin__means(uint64_t l1, uint64_t l2)
 {
     uint8_t l0;
     uint64_t l3;
@@ -18133,7 +18138,7 @@ static inline uint8_t scheduler__begin__means(uint64_t l1, uint64_t l2)
     return l0;
 }
 
-static inline uint64_t scheduler__count__holding(rt_slice l1, uint64_t l2)
+static RT_SHORT uint64_t scheduler__count__holding(rt_slice l1, uint64_t l2)
 {
     uint64_t l0;
     uint64_t l3;
@@ -18970,7 +18975,7 @@ end1:;
     return;
 }
 
-static inline uint64_t table_read__nulls__null_cell(uint8_t l1)
+static RT_SHORT uint64_t table_read__nulls__null_cell(uint8_t l1)
 {
     uint64_t l0;
     uint32_t l2;
@@ -19109,7 +19114,7 @@ static RT_HERE struct core__result__Result__u64_Refusal table_read__read_image(r
     return l0;
 }
 
-static inline uint8_t table_read__reading__allowed(uint8_t l1, uint64_t l2)
+static RT_SHORT uint8_t table_read__reading__allowed(uint8_t l1, uint64_t l2)
 {
     uint8_t l0;
     uint8_t l3;
@@ -19532,7 +19537,7 @@ end1:;
     return l0;
 }
 
-static inline uint64_t table_write__writing__stream(rt_slice l1, rt_slice l2, rt_slice l3, uint64_t l4, rt_slice l5)
+static RT_SHORT uint64_t table_write__writing__stream(rt_slice l1, rt_slice l2, rt_slice l3, uint64_t l4, rt_slice l5)
 {
     uint64_t l0;
     uint8_t *l8;
@@ -19589,7 +19594,7 @@ end1:;
     return;
 }
 
-static inline uint64_t text__byte(rt_slice l1, uint64_t l2, uint8_t l3)
+static RT_SHORT uint64_t text__byte(rt_slice l1, uint64_t l2, uint8_t l3)
 {
     uint64_t l0;
     uint8_t *l4;
@@ -19770,7 +19775,7 @@ static inline uint64_t text__command(rt_slice l1, uint64_t l2, uint64_t l3)
     return l0;
 }
 
-static inline uint64_t text__decimal(rt_slice l1, uint64_t l2, uint64_t l3)
+static RT_SHORT uint64_t text__decimal(rt_slice l1, uint64_t l2, uint64_t l3)
 {
     uint64_t l0;
     uint8_t *l4;
@@ -19782,7 +19787,7 @@ static inline uint64_t text__decimal(rt_slice l1, uint64_t l2, uint64_t l3)
     return l0;
 }
 
-static inline uint64_t text__digit(rt_slice l1, uint64_t l2, uint64_t l3)
+static RT_SHORT uint64_t text__digit(rt_slice l1, uint64_t l2, uint64_t l3)
 {
     uint64_t l0;
     uint8_t *l4;
@@ -19838,7 +19843,7 @@ static inline uint64_t text__digits(rt_slice l1, uint64_t l2, uint64_t l3, uint6
     return l0;
 }
 
-static inline uint64_t text__keyed(rt_slice l1, uint64_t l2, rt_slice l3, uint64_t l4)
+static RT_SHORT uint64_t text__keyed(rt_slice l1, uint64_t l2, rt_slice l3, uint64_t l4)
 {
     uint64_t l0;
     uint64_t l5;
@@ -19857,7 +19862,7 @@ static inline uint64_t text__keyed(rt_slice l1, uint64_t l2, rt_slice l3, uint64
     return l0;
 }
 
-static inline uint64_t text__lines__column(rt_slice l1, uint64_t l2, uint64_t l3)
+static RT_SHORT uint64_t text__lines__column(rt_slice l1, uint64_t l2, uint64_t l3)
 {
     uint64_t l0;
     uint64_t l4;
@@ -20012,7 +20017,7 @@ static inline uint64_t text__push(rt_slice l1, uint64_t l2, uint64_t l3, uint64_
     return l0;
 }
 
-static inline uint64_t text__put(rt_slice l1, uint64_t l2, rt_slice l3)
+static RT_SHORT uint64_t text__put(rt_slice l1, uint64_t l2, rt_slice l3)
 {
     uint64_t l0;
     uint64_t l4;
@@ -20471,7 +20476,7 @@ static RT_HERE struct trace_images__Traced trace_images__pages__ended(struct tra
     return l0;
 }
 
-static inline uint64_t trace_images__pages__least(uint64_t l1, uint64_t l2)
+static RT_SHORT uint64_t trace_images__pages__least(uint64_t l1, uint64_t l2)
 {
     uint64_t l0;
     uint8_t l3;
@@ -21302,7 +21307,7 @@ static inline uint64_t trace_lines__back(rt_slice l1, uint64_t l2, uint64_t l3, 
     return l0;
 }
 
-static inline uint64_t trace_lines__choice__picked_of(rt_slice l1, uint64_t l2, uint64_t l3, uint64_t l4, uint8_t l5)
+static RT_SHORT uint64_t trace_lines__choice__picked_of(rt_slice l1, uint64_t l2, uint64_t l3, uint64_t l4, uint8_t l5)
 {
     uint64_t l0;
     struct rt_array_holders__Record_256 l6;
@@ -21315,7 +21320,7 @@ static inline uint64_t trace_lines__choice__picked_of(rt_slice l1, uint64_t l2, 
     return l0;
 }
 
-static inline uint64_t trace_lines__columns(rt_slice l1, uint64_t l2, uint64_t l3, uint64_t l4, uint64_t l5)
+static RT_SHORT uint64_t trace_lines__columns(rt_slice l1, uint64_t l2, uint64_t l3, uint64_t l4, uint64_t l5)
 {
     uint64_t l0;
     uint64_t l6;
@@ -21617,7 +21622,7 @@ static inline uint64_t trace_lines__parts__tag(rt_slice l1, uint64_t l2)
     return l0;
 }
 
-static inline uint64_t trace_lines__parts__worth(rt_slice l1, uint64_t l2, uint64_t l3)
+static RT_SHORT uint64_t trace_lines__parts__worth(rt_slice l1, uint64_t l2, uint64_t l3)
 {
     uint64_t l0;
     uint8_t *l4;
@@ -21685,7 +21690,7 @@ static inline uint64_t trace_lines__position(rt_slice l1, rt_slice l2, uint64_t 
     return l0;
 }
 
-static inline uint64_t trace_lines__step_at(uint64_t l1, uint64_t l2)
+static RT_SHORT uint64_t trace_lines__step_at(uint64_t l1, uint64_t l2)
 {
     uint64_t l0;
     uint8_t l3;
@@ -22035,7 +22040,7 @@ static inline uint64_t trace_lines__writes__written(rt_slice l1, uint64_t l2, st
     return l0;
 }
 
-static inline uint32_t types__default_word(uint8_t l1)
+static RT_SHORT uint32_t types__default_word(uint8_t l1)
 {
     uint32_t l0;
     uint8_t l2;
@@ -22044,14 +22049,14 @@ static inline uint32_t types__default_word(uint8_t l1)
     return l0;
 }
 
-static inline uint8_t types__is_reference(uint8_t l1)
+static RT_SHORT uint8_t types__is_reference(uint8_t l1)
 {
     uint8_t l0;
     l0 = (uint8_t)(UINT8_C(2) < l1);
     return l0;
 }
 
-static inline uint8_t types__is_type(uint8_t l1, uint8_t l2)
+static RT_SHORT uint8_t types__is_type(uint8_t l1, uint8_t l2)
 {
     uint8_t l0;
     uint8_t l3;
@@ -22189,7 +22194,7 @@ static RT_WITHIN uint8_t types__refusal__U8FromRefusal__from(struct types__refus
     return l0;
 }
 
-static inline uint8_t types__struct_of(uint8_t l1)
+static RT_SHORT uint8_t types__struct_of(uint8_t l1)
 {
     uint8_t l0;
     l0 = core__int__u8__saturating_sub(l1, UINT8_C(16));
@@ -22629,7 +22634,7 @@ static RT_HERE struct core__option__Option__rt_tuple2_uses_Scope_Option_u8 uses_
     return l0;
 }
 
-static inline uint8_t uses__book__Book__no_parameter(struct uses__book__Book l1, uint64_t l2, uint64_t l3)
+static RT_SHORT uint8_t uses__book__Book__no_parameter(struct uses__book__Book l1, uint64_t l2, uint64_t l3)
 {
     uint8_t l0;
     uint8_t l4;
@@ -23131,7 +23136,7 @@ end1:;
     return l0;
 }
 
-static inline uint8_t uses__declared__Declarations__few_steps(struct uses__declared__Declarations l1, uint64_t l2)
+static RT_SHORT uint8_t uses__declared__Declarations__few_steps(struct uses__declared__Declarations l1, uint64_t l2)
 {
     uint8_t l0;
     struct rt_array_uint64_17 l3;
@@ -23514,7 +23519,7 @@ end2:;
     return l0;
 }
 
-static inline uint8_t uses__declared__declares(uint8_t l1)
+static RT_SHORT uint8_t uses__declared__declares(uint8_t l1)
 {
     uint8_t l0;
     uint8_t l2;
@@ -24277,7 +24282,7 @@ static inline void uses__passing__store(rt_slice l1, uint64_t l2, uint64_t l3, u
     return;
 }
 
-static inline uint8_t uses__passing__type_number(uint8_t l1)
+static RT_SHORT uint8_t uses__passing__type_number(uint8_t l1)
 {
     uint8_t l0;
     uint8_t l2;

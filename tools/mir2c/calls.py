@@ -4,7 +4,8 @@ A struct of more than a word comes back from a call packed, or in memory: stored
 lets the copy wait, some tens of cycles for each call. So a function that answers one is expanded in place, unless code is to be small. One that calls itself
 cannot be, and what it calls is left to the compiler: its own memory is there once for each level. A short function that was written for many types, or is an
 impl's or a closure's, is expanded in place everywhere, small code or not: iterators, `?` and closures then cost what a loop and a branch do, and a call of one takes more
-bytes than its body. A function with much memory of its own is kept apart, so that this is given back before its caller asks for more."""
+bytes than its body. Any function of a few forms is expanded in place where code is to be small, for which a compiler else keeps too many of them apart; where it is to be
+quick the compiler chooses better. A function with much memory of its own is kept apart, so that this is given back before its caller asks for more."""
 # Bytes of a word; bytes of locals above which a function is kept apart.
 WORD = 8
 MEMORY = 4096
@@ -12,6 +13,9 @@ MEMORY = 4096
 # Forms of a body and bytes of locals up to which a helper is expanded in place, also in a function that calls itself.
 HELPER_FORMS = 80
 HELPER_BYTES = 512
+
+# Forms of a body up to which any function is expanded in place where code is to be small.
+SHORT_FORMS = 24
 
 WORDS = """\
 #if defined(__GNUC__)
@@ -28,6 +32,11 @@ WORDS = """\
 #define RT_WITHIN inline __attribute__((always_inline))
 #else
 #define RT_WITHIN inline
+#endif
+#if defined(__GNUC__) && defined(__OPTIMIZE_SIZE__)
+#define RT_SHORT inline __attribute__((always_inline))
+#else
+#define RT_SHORT inline
 #endif"""
 
 
@@ -64,4 +73,4 @@ class Calls:
             return "RT_WITHIN"
         if shapes.laid(types[0])[0] > WORD and name not in self.again | self.by_these:
             return "RT_HERE"
-        return "inline"
+        return "RT_SHORT" if len(self.functions[name]["body"]) <= SHORT_FORMS and name not in self.again else "inline"

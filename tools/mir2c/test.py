@@ -303,11 +303,11 @@ class Runs(unittest.TestCase):
         self.compared(functions, calls)
 
     def test_placed(self):
-        """A function that answers two words is expanded in place, unless it calls itself or one calls it that does; one with 4,800 bytes is kept apart. A struct is
-        copied field by field, an array or an enum in it whole."""
+        """A function that answers two words is expanded in place, unless it calls itself; one that such a function calls where it is short and code is to be small; one
+        with 4,800 bytes is kept apart. A struct is copied field by field, an array or an enum in it whole."""
         functions, calls = placed()
         text = written(functions)
-        for word, result, name in (("RT_HERE", "struct t__Pair", "here"), ("inline", "struct t__Pair", "below"), ("inline", "struct t__Pair", "again"),
+        for word, result, name in (("RT_HERE", "struct t__Pair", "here"), ("RT_SHORT", "struct t__Pair", "below"), ("inline", "struct t__Pair", "again"),
                                    ("RT_APART", "uint64_t", "large")):  # fmt: skip
             self.assertEqual((name, text.count(f"static {word} {result} t__{name}(")), (name, 2))
         for part in (".f0.f0", ".f0.f1", ".f1", ".f2", ".f3"):
