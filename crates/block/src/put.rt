@@ -7,7 +7,10 @@ pub fn copy(dst: &mut [u8], at: usize, src: &[u8])
     requires { at + length src.now ≤ length dst.old }
     ensures { dst.new ≡ put dst.old at src.now }
 {
-    dst[at..at + src.len()].copy_from_slice(src);
+    // By index: a copy of the whole is a `memmove` in the static library, which needs no other name than `memcpy` and `memset`.
+    for i in 0..src.len() {
+        dst[at + i] = src[i];
+    }
 }
 
 // n zero bytes.

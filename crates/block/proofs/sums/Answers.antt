@@ -1,5 +1,5 @@
 -- `sums` meets its contract. The loop's invariant: A is the sum of the bytes passed, B the sum of the running sums, each wrapped.
-use Rattle.std.proofs.Common.{◌≡◌, ℕ, ◌-◌, ◌*◌, ◌%◌, ◌≤◌, ◌∙◌, refl, subst, arith, get_or-take, length-take, length-take-le, ◌<◌}
+use Rattle.std.proofs.Common.{◌≡◌, ℕ, ◌-◌, ◌*◌, ◌%◌, ◌∙◌, refl, subst, arith, get_or-take, length-take, length-take-le, ◌<◌}
 use Rattle.block.specs.Sums.{byte, sum, sum_a, sum_b}
 use Rattle.block.proofs.Laws.SumLaws.{sums_turn}
 use Rattle.block.proofs.sums.Goals as goal

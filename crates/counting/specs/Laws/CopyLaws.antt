@@ -1,18 +1,26 @@
 -- One list copied into another (02 §14).
-use Rattle.std.specs.Prelude.{ℕ, ◌+◌, ◌-◌, ◌<◌, ◌≤◌, ◌≡◌, List, [], ◌∷◌, ◌++◌, length, get_or, set, take, drop}
-use Rattle.std.proofs.Common.{arith, add-one, append_assoc, drop-drop, sym, ap, ◌∙◌, length-drop, length-take-le, take-suc}
+use Rattle.std.specs.Prelude.{ℕ, suc, ◌+◌, ◌-◌, ◌<◌, ◌≤◌, ◌≡◌, List, [], ◌∷◌, ◌++◌, length, get_or, set, take, drop}
+use Rattle.std.proofs.Common.{arith, add-one, add-zero, add-suc, suc-add, append_assoc, drop-drop, sym, ap, ◌∙◌, length-drop, length-take-le, take-suc}
 use Rattle.std.proofs.lemmas.List.Edits.{sets, sets-eq}
 use borrow.Rule.Slice.PartMut.{put_mid}
 use Rattle.types.proofs.Laws.ListLaws.{sets_whole}
-use Rattle.types.proofs.Laws.SetsLaws.{sets_append}
+
+-- `sets_append` for values of any type
+sets_any : {A : Type 0} (l : List A) (i : ℕ) (xs ys : List A) → sets l i (xs ++ ys) ≡ sets (sets l i xs) (i + length xs) ys
+sets_any l i [] ys = rw add-zero
+sets_any l i (x ∷ xs) ys = rw (add-suc, ← suc-add) (sets_any (set l i x) (suc i) xs ys)
+
+-- of any values, the next of which is read beside a value that stands for none
+pub turn_copied : {A : Type 0} (d : List A) (at : ℕ) (s : List A) (i : ℕ) (z : A) → i < length s → set (sets d at (take i s)) (at + i) (get_or s i z) ≡ sets d at (take (i + 1) s)
+turn_copied d at s i z h =
+    let e : length (take i s) ≡ i = length-take-le i s (omega (arith, h)) in
+    let next : take i s ++ get_or s i z ∷ [] ≡ take (i + 1) s = rw (add-one, take-suc s i z h) in
+    ap (λ n. set (sets d at (take i s)) (at + n) (get_or s i z)) (sym e)
+    ∙ sym (sets_any d at (take i s) (get_or s i z ∷ []))
+    ∙ ap (sets d at) next
 
 pub copy_turn : (d : List ℕ) (at : ℕ) (s : List ℕ) (i : ℕ) → i < length s → set (sets d at (take i s)) (at + i) (get_or s i 0) ≡ sets d at (take (i + 1) s)
-copy_turn d at s i h =
-    let e : length (take i s) ≡ i = length-take-le i s (omega (arith, h)) in
-    let next : take i s ++ get_or s i 0 ∷ [] ≡ take (i + 1) s = rw (add-one, take-suc s i 0 h) in
-    ap (λ n. set (sets d at (take i s)) (at + n) (get_or s i 0)) (sym e)
-    ∙ sym (sets_append d at (take i s) (get_or s i 0 ∷ []))
-    ∙ ap (sets d at) next
+copy_turn d at s i h = turn_copied d at s i 0 h
 
 -- a part of a list, copied whole
 pub part_copied : (d s : List ℕ) (i n : ℕ) → length d ≡ n → i + n ≤ length s → sets d 0 (take (i + n - i) (drop i s)) ≡ take n (drop i s)
