@@ -1020,7 +1020,7 @@ static RT_WITHIN uint8_t block__fn__zeros__all(uint8_t *l1, uint8_t *l2);
 static RT_WITHIN uint8_t block__fn__zeros__all_FnMut__call_mut(uint8_t *l1, uint8_t *l2);
 static RT_SHORT uint8_t block__laid_out(rt_slice l1, uint64_t l2, uint8_t l3);
 static RT_HERE rt_slice block__payload(rt_slice l1, uint64_t l2);
-static RT_SHORT void block__put__copy(rt_slice l1, uint64_t l2, rt_slice l3);
+static inline void block__put__copy(rt_slice l1, uint64_t l2, rt_slice l3);
 static RT_SHORT void block__put__zeros(rt_slice l1, uint64_t l2, uint64_t l3);
 static inline struct block__Both block__sums(rt_slice l1);
 static RT_SHORT uint8_t block__sums_right(rt_slice l1);
@@ -2538,20 +2538,29 @@ static RT_HERE rt_slice block__payload(rt_slice l1, uint64_t l2)
     return l0;
 }
 
-static RT_SHORT void block__put__copy(rt_slice l1, uint64_t l2, rt_slice l3)
+static inline void block__put__copy(rt_slice l1, uint64_t l2, rt_slice l3)
 {
-    uint64_t l6;
+    uint64_t l4;
+    uint8_t l6;
     uint8_t *l7;
-    uint64_t l8;
-    uint8_t *l9;
-    rt_slice l10;
-    l6 = (uint64_t)((uint64_t)l2 + (uint64_t)l3.n);
-    l7 = l1.p + (size_t)l2;
-    l8 = (uint64_t)((uint64_t)l6 - (uint64_t)l2);
-    l9 = (uint8_t *)&(*(uint8_t *)l7);
-    l10.p = l9;
-    l10.n = l8;
-    core__slice__edits__slice_T__copy_from_slice__u8(l10, l3);
+    uint8_t l8;
+    uint64_t l9;
+    uint8_t *l10;
+    l4 = UINT64_C(0);
+    for (;;) {
+        l6 = (uint8_t)(l4 < l3.n);
+        if (l6) {
+        } else {
+            goto end1;
+        }
+        l7 = l3.p + (size_t)l4;
+        l8 = (*(uint8_t *)l7);
+        l9 = (uint64_t)((uint64_t)l2 + (uint64_t)l4);
+        l10 = l1.p + (size_t)l9;
+        (*(uint8_t *)l10) = l8;
+        l4 = (uint64_t)((uint64_t)l4 + (uint64_t)UINT64_C(1));
+    }
+end1:;
     return;
 }
 
@@ -8606,40 +8615,60 @@ static RT_HERE struct rt_array_uint64_32 counting__copies__part__u64_32(rt_slice
 static RT_WITHIN void counting__copies__write__u16(rt_slice l1, uint64_t l2, rt_slice l3)
 {
     uint64_t l4;
-    uint64_t l5;
-    uint8_t *l7;
-    uint64_t l8;
-    uint8_t *l9;
-    rt_slice l10;
-    l5 = l3.n;
-    l4 = (uint64_t)((uint64_t)l2 + (uint64_t)l5);
-    l5 = (uint64_t)((uint64_t)l2 * (uint64_t)UINT64_C(2));
-    l7 = l1.p + (size_t)l5;
-    l8 = (uint64_t)((uint64_t)l4 - (uint64_t)l2);
-    l9 = (uint8_t *)&(*(uint16_t *)l7);
-    l10.p = l9;
-    l10.n = l8;
-    core__slice__edits__slice_T__copy_from_slice__u16(l10, l3);
+    uint8_t l6;
+    uint64_t l7;
+    uint8_t *l8;
+    uint16_t l9;
+    uint64_t l10;
+    uint64_t l11;
+    uint8_t *l12;
+    l4 = UINT64_C(0);
+    for (;;) {
+        l6 = (uint8_t)(l4 < l3.n);
+        if (l6) {
+        } else {
+            goto end1;
+        }
+        l7 = (uint64_t)((uint64_t)l4 * (uint64_t)UINT64_C(2));
+        l8 = l3.p + (size_t)l7;
+        l9 = (*(uint16_t *)l8);
+        l10 = (uint64_t)((uint64_t)l2 + (uint64_t)l4);
+        l11 = (uint64_t)((uint64_t)l10 * (uint64_t)UINT64_C(2));
+        l12 = l1.p + (size_t)l11;
+        (*(uint16_t *)l12) = l9;
+        l4 = (uint64_t)((uint64_t)l4 + (uint64_t)UINT64_C(1));
+    }
+end1:;
     return;
 }
 
 static RT_WITHIN void counting__copies__write__u64(rt_slice l1, uint64_t l2, rt_slice l3)
 {
     uint64_t l4;
-    uint64_t l5;
-    uint8_t *l7;
-    uint64_t l8;
-    uint8_t *l9;
-    rt_slice l10;
-    l5 = l3.n;
-    l4 = (uint64_t)((uint64_t)l2 + (uint64_t)l5);
-    l5 = (uint64_t)((uint64_t)l2 * (uint64_t)UINT64_C(8));
-    l7 = l1.p + (size_t)l5;
-    l8 = (uint64_t)((uint64_t)l4 - (uint64_t)l2);
-    l9 = (uint8_t *)&(*(uint64_t *)l7);
-    l10.p = l9;
-    l10.n = l8;
-    core__slice__edits__slice_T__copy_from_slice__u64(l10, l3);
+    uint8_t l6;
+    uint64_t l7;
+    uint8_t *l8;
+    uint64_t l9;
+    uint64_t l10;
+    uint64_t l11;
+    uint8_t *l12;
+    l4 = UINT64_C(0);
+    for (;;) {
+        l6 = (uint8_t)(l4 < l3.n);
+        if (l6) {
+        } else {
+            goto end1;
+        }
+        l7 = (uint64_t)((uint64_t)l4 * (uint64_t)UINT64_C(8));
+        l8 = l3.p + (size_t)l7;
+        l9 = (*(uint64_t *)l8);
+        l10 = (uint64_t)((uint64_t)l2 + (uint64_t)l4);
+        l11 = (uint64_t)((uint64_t)l10 * (uint64_t)UINT64_C(8));
+        l12 = l1.p + (size_t)l11;
+        (*(uint64_t *)l12) = l9;
+        l4 = (uint64_t)((uint64_t)l4 + (uint64_t)UINT64_C(1));
+    }
+end1:;
     return;
 }
 
