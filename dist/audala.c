@@ -1,6 +1,6 @@
 /* The AuDaLa engine as one C99 file, to be compiled beside audala.h. It needs memcpy and memset and nothing else, keeps no data and allocates nothing.
  *
- * Written by tools/mir2c: do not edit. 698 functions, from the MIR that the libraries of the proved crates carry.
+ * Written by tools/mir2c: do not edit. 686 functions, from the MIR that the libraries of the proved crates carry.
  * Kit: rattle-kit-13f logic dac8208d650f15bf
  *
  * Proved, of the MIR: that each function meets its contract for every input, and so reads and writes nothing outside of what it is lent, overflows nothing and
@@ -361,20 +361,6 @@ struct core__cmp__slices__ElementMismatch__u8 {
 struct rt_tuple2__bool_u64 {
     uint8_t f0;
     uint64_t f1;
-};
-struct core__slots__Slots__u16 {
-    uint8_t * f0;
-    uint64_t f1;
-};
-struct rt_tuple3__Slots_u16_unit_unit {
-    struct core__slots__Slots__u16 f0;
-};
-struct core__slots__Slots__u64 {
-    uint8_t * f0;
-    uint64_t f1;
-};
-struct rt_tuple3__Slots_u64_unit_unit {
-    struct core__slots__Slots__u64 f0;
 };
 struct core__slots__Slots__u8 {
     uint8_t * f0;
@@ -1137,8 +1123,6 @@ static RT_WITHIN struct core__option__Option__u32 core__convert__try_from__I32In
 static RT_WITHIN struct rt_tuple2__bool_u64 core__convert__try_from__I64Integer__split(uint64_t l1);
 static RT_WITHIN struct core__option__Option__u32 core__convert__try_from__U32Integer__join(uint8_t l1, uint64_t l2);
 static RT_WITHIN struct rt_tuple2__bool_u64 core__convert__try_from__U64Integer__split(uint64_t l1);
-static RT_WITHIN struct rt_tuple3__Slots_u16_unit_unit core__core__slice__edits__copy_over_FnOnce__call_once__u16(struct core__slots__Slots__u16 l2, rt_slice l4);
-static RT_WITHIN struct rt_tuple3__Slots_u64_unit_unit core__core__slice__edits__copy_over_FnOnce__call_once__u64(struct core__slots__Slots__u64 l2, rt_slice l4);
 static RT_WITHIN struct rt_tuple3__Slots_u8_unit_unit core__core__slice__edits__copy_over_FnOnce__call_once__u8(struct core__slots__Slots__u8 l2, rt_slice l4);
 static RT_WITHIN uint16_t core__default__U16Default__default(void);
 static RT_WITHIN uint64_t core__default__U64Default__default(void);
@@ -1196,8 +1180,6 @@ static RT_WITHIN struct core__ops__ControlFlow__NoValue_u64 core__option__Option
 static RT_WITHIN struct core__ops__ControlFlow__NoValue_u8 core__option__OptionTry__branch__u8(struct core__option__Option__u8 l1);
 static RT_WITHIN struct core__option__Option__u16 core__option__more__Option_ref_T__copied__u16(struct core__option__Option__ref_u16 l1);
 static RT_WITHIN struct core__option__Option__u8 core__option__more__Option_ref_T__copied__u8(struct core__option__Option__ref_u8 l1);
-static RT_WITHIN void core__ptr__copy_drop__copy_bits__u16(uint8_t *l1, uint8_t *l2, uint64_t l3);
-static RT_WITHIN void core__ptr__copy_drop__copy_bits__u64(uint8_t *l1, uint8_t *l2, uint64_t l3);
 static RT_WITHIN void core__ptr__copy_drop__copy_bits__u8(uint8_t *l1, uint8_t *l2, uint64_t l3);
 static RT_WITHIN struct core__option__Option__u32 core__result__Result__ok__u32_TryFromIntError(struct core__result__Result__u32_TryFromIntError l1);
 static RT_WITHIN struct core__ops__ControlFlow__ErrResidual_Refusal_Loaded core__result__ResultTry__branch__Loaded_Refusal(struct core__result__Result__Loaded_Refusal l1);
@@ -1214,11 +1196,7 @@ static RT_WITHIN struct core__ops__ControlFlow__ErrResidual_NoProgram_u64 core__
 static RT_WITHIN struct core__ops__ControlFlow__ErrResidual_OperatorError_u64 core__result__ResultTry__branch__u64_OperatorError(struct core__result__Result__u64_OperatorError l1);
 static RT_WITHIN struct core__ops__ControlFlow__ErrResidual_Refusal_u64 core__result__ResultTry__branch__u64_Refusal(struct core__result__Result__u64_Refusal l1);
 static RT_WITHIN struct core__ops__ControlFlow__ErrResidual_Refusal_unit core__result__ResultTry__branch__unit_Refusal(struct core__result__Result__unit_Refusal l1);
-static RT_WITHIN struct rt_tuple3__Slots_u16_unit_unit core__slice__edits__copy_over__u16(struct core__slots__Slots__u16 l1, rt_slice l3);
-static RT_WITHIN struct rt_tuple3__Slots_u64_unit_unit core__slice__edits__copy_over__u64(struct core__slots__Slots__u64 l1, rt_slice l3);
 static RT_WITHIN struct rt_tuple3__Slots_u8_unit_unit core__slice__edits__copy_over__u8(struct core__slots__Slots__u8 l1, rt_slice l3);
-static RT_WITHIN void core__slice__edits__slice_T__copy_from_slice__u16(rt_slice l1, rt_slice l2);
-static RT_WITHIN void core__slice__edits__slice_T__copy_from_slice__u64(rt_slice l1, rt_slice l2);
 static RT_WITHIN void core__slice__edits__slice_T__copy_from_slice__u8(rt_slice l1, rt_slice l2);
 static RT_WITHIN void core__slice__edits__slice_T__fill__u8(rt_slice l1, uint8_t l2);
 static RT_WITHIN struct core__option__Option__ref_u16 core__slice__index__UsizeSliceIndexRefSlice__pick__u16(uint64_t l1, rt_slice l2);
@@ -1238,11 +1216,7 @@ static RT_WITHIN struct core__option__Option__ref_u16 core__slice__slice_T__get_
 static RT_WITHIN struct core__option__Option__ref_u8 core__slice__slice_T__get__u8_u64_ref_u8(rt_slice l1, uint64_t l2);
 static RT_WITHIN uint8_t core__slice__slice_T__is_empty__u64(rt_slice l1);
 static RT_WITHIN uint8_t core__slice__slice_T__is_empty__u8(rt_slice l1);
-static RT_WITHIN void core__slots__Slots__copy_in__u16(uint8_t *l1, uint64_t l2, rt_slice l3);
-static RT_WITHIN void core__slots__Slots__copy_in__u64(uint8_t *l1, uint64_t l2, rt_slice l3);
 static RT_WITHIN void core__slots__Slots__copy_in__u8(uint8_t *l1, uint64_t l2, rt_slice l3);
-static RT_WITHIN void core__slots__lends__with_slots__u16_unit_slice_u16_unit_unit(rt_slice l1, uint8_t *l2, rt_slice l3);
-static RT_WITHIN void core__slots__lends__with_slots__u64_unit_slice_u64_unit_unit(rt_slice l1, uint8_t *l2, rt_slice l3);
 static RT_WITHIN void core__slots__lends__with_slots__u8_unit_slice_u8_unit_unit(rt_slice l1, uint8_t *l2, rt_slice l3);
 static RT_WITHIN void core__Destruct__none__drop__TakeWhile_Iter_u8_digits_t_2927e43b(struct core__iter__closures__TakeWhile__Iter_u8_digits_take_while_Self l1);
 static RT_WITHIN void core__Destruct__none__drop__TakeWhile_Iter_u8_names_ta_e5f448fb(struct core__iter__closures__TakeWhile__Iter_u8_names_take_while_Self l1);
@@ -5333,20 +5307,6 @@ static RT_WITHIN struct rt_tuple2__bool_u64 core__convert__try_from__U64Integer_
     return l0;
 }
 
-static RT_WITHIN struct rt_tuple3__Slots_u16_unit_unit core__core__slice__edits__copy_over_FnOnce__call_once__u16(struct core__slots__Slots__u16 l2, rt_slice l4)
-{
-    struct rt_tuple3__Slots_u16_unit_unit l0;
-    l0 = core__slice__edits__copy_over__u16(l2, l4);
-    return l0;
-}
-
-static RT_WITHIN struct rt_tuple3__Slots_u64_unit_unit core__core__slice__edits__copy_over_FnOnce__call_once__u64(struct core__slots__Slots__u64 l2, rt_slice l4)
-{
-    struct rt_tuple3__Slots_u64_unit_unit l0;
-    l0 = core__slice__edits__copy_over__u64(l2, l4);
-    return l0;
-}
-
 static RT_WITHIN struct rt_tuple3__Slots_u8_unit_unit core__core__slice__edits__copy_over_FnOnce__call_once__u8(struct core__slots__Slots__u8 l2, rt_slice l4)
 {
     struct rt_tuple3__Slots_u8_unit_unit l0;
@@ -6431,70 +6391,6 @@ static RT_WITHIN struct core__option__Option__u8 core__option__more__Option_ref_
     return l0;
 }
 
-static RT_WITHIN void core__ptr__copy_drop__copy_bits__u16(uint8_t *l1, uint8_t *l2, uint64_t l3)
-{
-    uint64_t l4;
-    uint8_t l5;
-    uint64_t l6;
-    uint8_t *l7;
-    uint64_t l8;
-    uint8_t *l9;
-    uint16_t l10;
-    if ((uintptr_t)l2 - (uintptr_t)l1 >= (size_t)l3 * 2 && (uintptr_t)l1 - (uintptr_t)l2 >= (size_t)l3 * 2) {
-        memcpy(l2, l1, (size_t)l3 * 2);
-        return;
-    }
-    l4 = UINT64_C(0);
-    for (;;) {
-        l5 = (uint8_t)(l4 < l3);
-        if (l5) {
-        } else {
-            goto end1;
-        }
-        l6 = (uint64_t)((uint64_t)l4 * (uint64_t)UINT64_C(2));
-        l7 = l2 + (size_t)l6;
-        l8 = (uint64_t)((uint64_t)l4 * (uint64_t)UINT64_C(2));
-        l9 = l1 + (size_t)l8;
-        l10 = (*(uint16_t *)l9);
-        (*(uint16_t *)l7) = l10;
-        l4 = (uint64_t)((uint64_t)l4 + (uint64_t)UINT64_C(1));
-    }
-end1:;
-    return;
-}
-
-static RT_WITHIN void core__ptr__copy_drop__copy_bits__u64(uint8_t *l1, uint8_t *l2, uint64_t l3)
-{
-    uint64_t l4;
-    uint8_t l5;
-    uint64_t l6;
-    uint8_t *l7;
-    uint64_t l8;
-    uint8_t *l9;
-    uint64_t l10;
-    if ((uintptr_t)l2 - (uintptr_t)l1 >= (size_t)l3 * 8 && (uintptr_t)l1 - (uintptr_t)l2 >= (size_t)l3 * 8) {
-        memcpy(l2, l1, (size_t)l3 * 8);
-        return;
-    }
-    l4 = UINT64_C(0);
-    for (;;) {
-        l5 = (uint8_t)(l4 < l3);
-        if (l5) {
-        } else {
-            goto end1;
-        }
-        l6 = (uint64_t)((uint64_t)l4 * (uint64_t)UINT64_C(8));
-        l7 = l2 + (size_t)l6;
-        l8 = (uint64_t)((uint64_t)l4 * (uint64_t)UINT64_C(8));
-        l9 = l1 + (size_t)l8;
-        l10 = (*(uint64_t *)l9);
-        (*(uint64_t *)l7) = l10;
-        l4 = (uint64_t)((uint64_t)l4 + (uint64_t)UINT64_C(1));
-    }
-end1:;
-    return;
-}
-
 static RT_WITHIN void core__ptr__copy_drop__copy_bits__u8(uint8_t *l1, uint8_t *l2, uint64_t l3)
 {
     uint64_t l4;
@@ -6905,40 +6801,6 @@ static RT_WITHIN struct core__ops__ControlFlow__ErrResidual_Refusal_unit core__r
     return l0;
 }
 
-static RT_WITHIN struct rt_tuple3__Slots_u16_unit_unit core__slice__edits__copy_over__u16(struct core__slots__Slots__u16 l1, rt_slice l3)
-{
-    struct rt_tuple3__Slots_u16_unit_unit l0;
-    struct core__slots__Slots__u16 l4;
-    uint8_t *l6;
-    struct core__slots__Slots__u16 l7;
-    l4.f0 = l1.f0;
-    l4.f1 = l1.f1;
-    l6 = (uint8_t *)&l4;
-    core__slots__Slots__copy_in__u16(l6, UINT64_C(0), l3);
-    l7.f0 = l4.f0;
-    l7.f1 = l4.f1;
-    l0.f0.f0 = l7.f0;
-    l0.f0.f1 = l7.f1;
-    return l0;
-}
-
-static RT_WITHIN struct rt_tuple3__Slots_u64_unit_unit core__slice__edits__copy_over__u64(struct core__slots__Slots__u64 l1, rt_slice l3)
-{
-    struct rt_tuple3__Slots_u64_unit_unit l0;
-    struct core__slots__Slots__u64 l4;
-    uint8_t *l6;
-    struct core__slots__Slots__u64 l7;
-    l4.f0 = l1.f0;
-    l4.f1 = l1.f1;
-    l6 = (uint8_t *)&l4;
-    core__slots__Slots__copy_in__u64(l6, UINT64_C(0), l3);
-    l7.f0 = l4.f0;
-    l7.f1 = l4.f1;
-    l0.f0.f0 = l7.f0;
-    l0.f0.f1 = l7.f1;
-    return l0;
-}
-
 static RT_WITHIN struct rt_tuple3__Slots_u8_unit_unit core__slice__edits__copy_over__u8(struct core__slots__Slots__u8 l1, rt_slice l3)
 {
     struct rt_tuple3__Slots_u8_unit_unit l0;
@@ -6954,32 +6816,6 @@ static RT_WITHIN struct rt_tuple3__Slots_u8_unit_unit core__slice__edits__copy_o
     l0.f0.f0 = l7.f0;
     l0.f0.f1 = l7.f1;
     return l0;
-}
-
-static RT_WITHIN void core__slice__edits__slice_T__copy_from_slice__u16(rt_slice l1, rt_slice l2)
-{
-    uint8_t *l5;
-    rt_slice l6;
-    uint8_t *l7;
-    l5 = (uint8_t *)&(*(uint16_t *)l1.p);
-    l6.p = l5;
-    l6.n = l1.n;
-    l7 = (uint8_t *)0;
-    core__slots__lends__with_slots__u16_unit_slice_u16_unit_unit(l6, l7, l2);
-    return;
-}
-
-static RT_WITHIN void core__slice__edits__slice_T__copy_from_slice__u64(rt_slice l1, rt_slice l2)
-{
-    uint8_t *l5;
-    rt_slice l6;
-    uint8_t *l7;
-    l5 = (uint8_t *)&(*(uint64_t *)l1.p);
-    l6.p = l5;
-    l6.n = l1.n;
-    l7 = (uint8_t *)0;
-    core__slots__lends__with_slots__u64_unit_slice_u64_unit_unit(l6, l7, l2);
-    return;
 }
 
 static RT_WITHIN void core__slice__edits__slice_T__copy_from_slice__u8(rt_slice l1, rt_slice l2)
@@ -7455,34 +7291,6 @@ static RT_WITHIN uint8_t core__slice__slice_T__is_empty__u8(rt_slice l1)
     return l0;
 }
 
-static RT_WITHIN void core__slots__Slots__copy_in__u16(uint8_t *l1, uint64_t l2, rt_slice l3)
-{
-    uint8_t *l5;
-    uint8_t *l6;
-    uint64_t l7;
-    uint8_t *l8;
-    l5 = (uint8_t *)&(*(uint16_t *)l3.p);
-    l6 = (*(struct core__slots__Slots__u16 *)l1).f0;
-    l7 = (uint64_t)((uint64_t)l2 * (uint64_t)UINT64_C(2));
-    l8 = l6 + (size_t)l7;
-    core__ptr__copy_drop__copy_bits__u16(l5, l8, l3.n);
-    return;
-}
-
-static RT_WITHIN void core__slots__Slots__copy_in__u64(uint8_t *l1, uint64_t l2, rt_slice l3)
-{
-    uint8_t *l5;
-    uint8_t *l6;
-    uint64_t l7;
-    uint8_t *l8;
-    l5 = (uint8_t *)&(*(uint64_t *)l3.p);
-    l6 = (*(struct core__slots__Slots__u64 *)l1).f0;
-    l7 = (uint64_t)((uint64_t)l2 * (uint64_t)UINT64_C(8));
-    l8 = l6 + (size_t)l7;
-    core__ptr__copy_drop__copy_bits__u64(l5, l8, l3.n);
-    return;
-}
-
 static RT_WITHIN void core__slots__Slots__copy_in__u8(uint8_t *l1, uint64_t l2, rt_slice l3)
 {
     uint8_t *l5;
@@ -7494,30 +7302,6 @@ static RT_WITHIN void core__slots__Slots__copy_in__u8(uint8_t *l1, uint64_t l2, 
     l7 = (uint64_t)((uint64_t)l2 * (uint64_t)UINT64_C(1));
     l8 = l6 + (size_t)l7;
     core__ptr__copy_drop__copy_bits__u8(l5, l8, l3.n);
-    return;
-}
-
-static RT_WITHIN void core__slots__lends__with_slots__u16_unit_slice_u16_unit_unit(rt_slice l1, uint8_t *l2, rt_slice l3)
-{
-    uint8_t *l6;
-    struct core__slots__Slots__u16 l14;
-    (void)l2;
-    l6 = (uint8_t *)&(*(uint16_t *)l1.p);
-    l14.f0 = l6;
-    l14.f1 = l1.n;
-    (void)core__core__slice__edits__copy_over_FnOnce__call_once__u16(l14, l3);
-    return;
-}
-
-static RT_WITHIN void core__slots__lends__with_slots__u64_unit_slice_u64_unit_unit(rt_slice l1, uint8_t *l2, rt_slice l3)
-{
-    uint8_t *l6;
-    struct core__slots__Slots__u64 l14;
-    (void)l2;
-    l6 = (uint8_t *)&(*(uint64_t *)l1.p);
-    l14.f0 = l6;
-    l14.f1 = l1.n;
-    (void)core__core__slice__edits__copy_over_FnOnce__call_once__u64(l14, l3);
     return;
 }
 
@@ -8555,27 +8339,37 @@ static RT_WITHIN struct rt_array_uint16_6 counting__copies__part__u16_6(rt_slice
     uint64_t l4;
     uint64_t l5;
     uint16_t l6;
-    uint8_t *l8;
-    rt_slice l9;
+    uint64_t l7;
+    uint8_t l8;
+    uint64_t l9;
     uint64_t l10;
     uint8_t *l11;
-    uint64_t l12;
-    uint8_t *l13;
-    rt_slice l14;
+    uint16_t l12;
+    uint64_t l13;
+    uint8_t *l14;
+    uint8_t *l15;
     l6 = core__default__U16Default__default();
     for (size_t i = 0; i < 6; i++) l3.a[i] = l6;
     l4 = (uint64_t)((uint64_t)UINT64_C(6) * (uint64_t)l2);
-    l5 = (uint64_t)((uint64_t)l4 + (uint64_t)UINT64_C(6));
-    l8 = (uint8_t *)&l3;
-    l9.p = l8;
-    l9.n = UINT64_C(6);
-    l10 = (uint64_t)((uint64_t)l4 * (uint64_t)UINT64_C(2));
-    l11 = l1.p + (size_t)l10;
-    l12 = (uint64_t)((uint64_t)l5 - (uint64_t)l4);
-    l13 = (uint8_t *)&(*(uint16_t *)l11);
-    l14.p = l13;
-    l14.n = l12;
-    core__slice__edits__slice_T__copy_from_slice__u16(l9, l14);
+    l5 = UINT64_C(0);
+    l7 = UINT64_C(6);
+    for (;;) {
+        l8 = (uint8_t)(l5 < l7);
+        if (l8) {
+        } else {
+            goto end1;
+        }
+        l9 = (uint64_t)((uint64_t)l4 + (uint64_t)l5);
+        l10 = (uint64_t)((uint64_t)l9 * (uint64_t)UINT64_C(2));
+        l11 = l1.p + (size_t)l10;
+        l12 = (*(uint16_t *)l11);
+        l13 = (uint64_t)((uint64_t)l5 * (uint64_t)UINT64_C(2));
+        l14 = (uint8_t *)&l3;
+        l15 = l14 + (size_t)l13;
+        (*(uint16_t *)l15) = l12;
+        l5 = (uint64_t)((uint64_t)l5 + (uint64_t)UINT64_C(1));
+    }
+end1:;
     l0 = l3;
     return l0;
 }
@@ -8587,27 +8381,37 @@ static RT_HERE struct rt_array_uint64_32 counting__copies__part__u64_32(rt_slice
     uint64_t l4;
     uint64_t l5;
     uint64_t l6;
-    uint8_t *l8;
-    rt_slice l9;
+    uint64_t l7;
+    uint8_t l8;
+    uint64_t l9;
     uint64_t l10;
     uint8_t *l11;
     uint64_t l12;
-    uint8_t *l13;
-    rt_slice l14;
+    uint64_t l13;
+    uint8_t *l14;
+    uint8_t *l15;
     l6 = core__default__U64Default__default();
     for (size_t i = 0; i < 32; i++) l3.a[i] = l6;
     l4 = (uint64_t)((uint64_t)UINT64_C(32) * (uint64_t)l2);
-    l5 = (uint64_t)((uint64_t)l4 + (uint64_t)UINT64_C(32));
-    l8 = (uint8_t *)&l3;
-    l9.p = l8;
-    l9.n = UINT64_C(32);
-    l10 = (uint64_t)((uint64_t)l4 * (uint64_t)UINT64_C(8));
-    l11 = l1.p + (size_t)l10;
-    l12 = (uint64_t)((uint64_t)l5 - (uint64_t)l4);
-    l13 = (uint8_t *)&(*(uint64_t *)l11);
-    l14.p = l13;
-    l14.n = l12;
-    core__slice__edits__slice_T__copy_from_slice__u64(l9, l14);
+    l5 = UINT64_C(0);
+    l7 = UINT64_C(32);
+    for (;;) {
+        l8 = (uint8_t)(l5 < l7);
+        if (l8) {
+        } else {
+            goto end1;
+        }
+        l9 = (uint64_t)((uint64_t)l4 + (uint64_t)l5);
+        l10 = (uint64_t)((uint64_t)l9 * (uint64_t)UINT64_C(8));
+        l11 = l1.p + (size_t)l10;
+        l12 = (*(uint64_t *)l11);
+        l13 = (uint64_t)((uint64_t)l5 * (uint64_t)UINT64_C(8));
+        l14 = (uint8_t *)&l3;
+        l15 = l14 + (size_t)l13;
+        (*(uint64_t *)l15) = l12;
+        l5 = (uint64_t)((uint64_t)l5 + (uint64_t)UINT64_C(1));
+    }
+end1:;
     l0 = l3;
     return l0;
 }
